@@ -7,7 +7,7 @@ use Rattle.pure_text.specs.Lists.{IsIn, EachTwo}
 use Rattle.pure_text.proofs.ListLaws.{in_split}
 use Rattle.pure_definitions.specs.Names.{Label}
 use Rattle.pure_grammar.specs.Theories.Lexeme.{same}
-use Rattle.pure_grammar.specs.Theories.TheoryText.{Span, Step, Command, Class, TypeDecl, Arity as ArityOf, Const, Axiom, Definition, Lemma}
+use Rattle.pure_grammar.specs.Theories.TheoryText.{Span, Step, Have, Command, Class, TypeDecl, Arity as ArityOf, Const, Axiom, Definition, Lemma}
 use Rattle.pure_grammar.proofs.Distinct.{same-is}
 use Rattle.pure_typ.specs.NameTexts.{HasText}
 use Rattle.pure_logic.specs.Content.{Content}
@@ -24,8 +24,10 @@ use Rattle.pure_graph.specs.Order.{Loaded}
 use Rattle.pure_graph.specs.Session.{Session, Shown, shown}
 use Rattle.pure_io.specs.declared.library.File as library
 use Rattle.pure_check_work.specs.Declare.Notes.{Fork, Note, Said, Forked, Outcome, Change}
-use Rattle.pure_check_work.specs.Declare.Commands.{Place, IsOutcome, IsSaid, IsClassChange, IsTypeChange, IsArityChange, IsConstChange, IsAxiomChange, IsDefinitionChange, IsLemmaOutcome, saying, forking}
-use Rattle.pure_check_work.specs.Declare.First.{Declares as DeclaresSo, AreDeclared, outcome_of}
+use Rattle.pure_check_work.specs.Declare.Commands.{Place, IsOutcome, IsSaid, IsClassChange, IsTypeChange, IsArityChange, IsConstChange, IsAxiomChange, IsDefinitionChange, IsLemmaOutcome, saying}
+use Rattle.pure_check_work.specs.Declare.First.{outcome_of}
+use Rattle.pure_check_work.specs.Declare.Parts.{Part, Whole, Within, End, binding, IsBoundOutcome, IsHaveOutcome, have_outcome, DeclaresPart}
+use Rattle.pure_check_work.specs.Declare.Fold.{part_label, AreParts, AreDeclared}
 use Rattle.pure_check_work.specs.Promise.Entries.{LemmaEntry}
 use Rattle.pure_check_work.specs.Promise.Rows.{IsRowOf}
 use Rattle.pure_check_work.specs.Promise.RowText.{fate_row, status_of}
@@ -64,11 +66,15 @@ module _ (P : Place) where
   said-fits command Is o (refuses reason h e) = absurd (cc)
   said-fits command Is o (goes_on c h e) = subst (λ (x : Outcome). Fits P.texts x.note) (sym (given-outcome o (saying P command c) e)) declared-unproved
 
+  bound-fits : (number lemma : ℕ) (text : List ℕ) → HasText P.texts number text → (span : Span) (script : List Step) (o : Outcome) → IsBoundOutcome P number lemma span script (Ok o) → Fits P.texts o.note
+  unfolding IsBoundOutcome
+  bound-fits number lemma text is span script o (holds h e) = absurd (cc)
+  bound-fits number lemma text is span script o (passes new (refuses reason h e)) = absurd (cc)
+  bound-fits number lemma text is span script o (passes new (goes_on s h e)) = subst (λ (x : Outcome). Fits P.texts x.note) (sym (given-outcome o (binding P number lemma script s) e)) (text, is)
+
   lemma-fits : (number : ℕ) (text : List ℕ) → HasText P.texts number text → (span : Span) (script : List Step) (o : Outcome) → IsLemmaOutcome P number span script (Ok o) → Fits P.texts o.note
-  unfolding IsLemmaOutcome
-  lemma-fits number text is span script o (holds h e) = absurd (cc)
-  lemma-fits number text is span script o (passes new (refuses reason h e)) = absurd (cc)
-  lemma-fits number text is span script o (passes new (goes_on s h e)) = subst (λ (x : Outcome). Fits P.texts x.note) (sym (given-outcome o (forking P number script s) e)) (text, is)
+  unfolding IsLemmaOutcome IsBoundOutcome
+  lemma-fits number text is span script o h = bound-fits number number text is span script o h
 
   outcome-fits : (command : Command) (o : Outcome) → IsOutcome P command (Ok o) → Fits P.texts o.note
   outcome-fits (Class x names) o (k, is, h) = said-fits (Class x names) (IsClassChange P k names) o h
@@ -83,16 +89,34 @@ module _ (P : Place) where
   answer-fits command o (Ok p) h e = subst (λ (x : Outcome). Fits P.texts x.note) (sym e) (outcome-fits command p h)
   answer-fits command o (Err reason) h e = subst (λ (x : Outcome). Fits P.texts x.note) (sym e) refused-unproved
 
-note-fits : (texts : List (List ℕ)) (source : List ℕ) (label : Label) (Q : Content) (command : Command) (note : Note) (next : Content) → DeclaresSo texts source label Q command note next → Fits texts note
-note-fits texts source label Q command note next d =
-    let P : Place = record { texts = texts; source = source; label = label; theory = d.theory; content = Q } in
-    answer-fits P command (record { note = note; next = next }) d.declares.answer d.declares.is d.declares.comes
+  have-fits : (lemma : List ℕ) (have : Have) (o : Outcome) (answer : Result Outcome Reason) → IsHaveOutcome P lemma have answer → o ≡ have_outcome P lemma have answer → Fits P.texts o.note
+  have-fits lemma have o (Ok p) (n, m, is, its, h) e = subst (λ (x : Outcome). Fits P.texts x.note) (sym e) (bound-fits n m _ is have.prop have.script p h)
+  have-fits lemma have o (Err reason) h e = subst (λ (x : Outcome). Fits P.texts x.note) (sym e) refused-unproved
 
--- What the commands of a theory leave fits,
+part-fits : (texts : List (List ℕ)) (source : List ℕ) (label : Label) (Q : Content) (part : Part) (note : Note) (next : Content) → DeclaresPart texts source label Q part note next → Fits texts note
+part-fits texts source label Q (Whole command) note next d =
+    let P : Place = record { texts = texts; source = source; label = label; theory = d.theory; content = Q } in
+    answer-fits P command (record { note = note; next = next }) d.declares.0.answer d.declares.0.is d.declares.0.comes
+part-fits texts source label Q (Within lemma have) note next d =
+    let P : Place = record { texts = texts; source = source; label = label; theory = d.theory; content = Q } in
+    have-fits P lemma have (record { note = note; next = next }) d.declares.answer d.declares.is d.declares.comes
+part-fits texts source label Q (End lemma prop script) note next d =
+    let P : Place = record { texts = texts; source = source; label = label; theory = d.theory; content = Q } in
+    bound-fits P d.declares.0 d.declares.0 _ d.declares.1 prop script (record { note = note; next = next }) d.declares.2
+
+-- What the parts of a command leave fits,
+parts-fit : (texts : List (List ℕ)) (source : List ℕ) (label : Label) (place : ℕ) (Q : Content) (parts : List Part) (notes : List Note) (last : Content) → AreParts texts source label place Q parts notes last → (note : Note) → IsIn note notes → Fits texts note
+parts-fit texts source label place Q [] notes last h note m = absurd (subst (λ ns. IsIn note ns) h.0 m)
+parts-fit texts source label place Q (part ∷ parts) notes last (first, next, more, d, rest, is) note m = elim (subst (λ ns. IsIn note ns) is m) [
+  | inl equal ↦ subst (Fits texts) (sym equal) (part-fits texts source (part_label label place) Q part first next d)
+  | inr later ↦ parts-fit texts source label (place + 1) next parts more last rest note later
+]
+
+-- and what the commands of a theory leave;
 declared-fit : (texts : List (List ℕ)) (source : List ℕ) (index place : ℕ) (Q : Content) (commands : List Command) (notes : List Note) (last : Content) → AreDeclared texts source index place Q commands notes last → (note : Note) → IsIn note notes → Fits texts note
 declared-fit texts source index place Q [] notes last h note m = absurd (subst (λ ns. IsIn note ns) h.0 m)
-declared-fit texts source index place Q (command ∷ commands) notes last (first, next, more, d, rest, is) note m = elim (subst (λ ns. IsIn note ns) is m) [
-  | inl equal ↦ subst (Fits texts) (sym equal) (note-fits texts source _ Q command first next d)
+declared-fit texts source index place Q (command ∷ commands) notes last (first, next, more, d, rest, is) note m = elim (in_split note first more (subst (λ ns. IsIn note ns) is m)) [
+  | inl here ↦ parts-fit texts source (record { theory = index; command = place; part = 0 }) 0 Q d.parts first next d.are note here
   | inr later ↦ declared-fit texts source index (place + 1) next commands more last rest note later
 ]
 

@@ -1,9 +1,8 @@
 -- From what is found for a session's lemma to the answer of the job; and that finding asks the facts by which trying is done.
-use Rattle.std.proofs.Common.{◌≡◌, ◌∙◌, ℕ, ◌==◌, Bool, true, false, List, [], ◌∷◌, ◌++◌, map, refl, Option, Result, Ok, Err, IfOk}
+use Rattle.std.proofs.Common.{◌≡◌, ◌∙◌, ℕ, Bool, true, false, List, [], ◌∷◌, ◌++◌, map, refl, Option, Result, Ok, Err, IfOk}
 use Rattle.std.specs.Prelude.{if◌then◌else◌}
 use Rattle.std.specs.List.{flat_map}
 use Rattle.std.proofs.lemmas.List.{map-append}
-use Rattle.pure_definitions.specs.Names.{protect_name}
 use Rattle.pure_definitions.specs.Terms.Term.{Term}
 use Rattle.pure_definitions.specs.Declarations.Decl.{Decl, ClassDecl, ConDecl, ArityDecl, ConstDecl, AxiomDecl, PromiseDecl}
 use Rattle.pure_print.specs.NameText.{text_of_name}
@@ -12,6 +11,7 @@ use Rattle.pure_graph.specs.Session.{Session}
 use Rattle.pure_graph.specs.declared.fault.LoadFault.{LoadFault}
 use Rattle.pure_words.specs.declared.job.Job.TheVariants.{Find}
 use Rattle.pure_check_work.specs.SessionLaws.Loaded.{IsLoadedSession}
+use Rattle.pure_check_work.specs.TheoryRun.Named.{is_written}
 use Rattle.pure_find.specs.Facts.{Fact, fact, built, declared, written}
 use Rattle.pure_find.specs.Laws.{BuiltAreNamed}
 use Rattle.pure_try.specs.Methods.{declared_facts, fact_name, written_name}
@@ -27,9 +27,9 @@ found-done told S is loaded name (Err fault) said = tt
 
 -- a declaration's fact has the name by which it is tried
 written-named : (texts : List (List ℕ)) (x : ℕ) (A : Term) → map Fact.name (written texts x A) ≡ written_name texts x
-written-named texts x A = by (x == protect_name)
+written-named texts x A = by (is_written texts x)
   where
-    by : (b : Bool) → map Fact.name (if b then [] else (fact (text_of_name texts x) A ∷ [])) ≡ (if b then [] else (text_of_name texts x ∷ []))
+    by : (b : Bool) → map Fact.name (if b then (fact (text_of_name texts x) A ∷ []) else []) ≡ (if b then (text_of_name texts x ∷ []) else [])
     by true = refl
     by false = refl
 

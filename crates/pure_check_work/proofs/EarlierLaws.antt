@@ -1,5 +1,5 @@
 -- Promises of a goal's content are those of lemmas with smaller numbers.
-use Rattle.std.proofs.Common.{◌≡◌, ◌∙◌, ◌⊎◌, ◌<◌, ℕ, ◌+◌, List, [], ◌∷◌, ◌++◌, length, take, length-append, refl, sym, ap, subst, arith, Some, slice_get, inl, inr}
+use Rattle.std.proofs.Common.{◌≡◌, ◌∙◌, ◌⊎◌, ◌<◌, ℕ, ◌+◌, List, ◌∷◌, ◌++◌, length, take, length-append, refl, sym, ap, subst, arith, Some, slice_get, inl, inr}
 use Rattle.pure_text.specs.Lists.{IsIn}
 use Rattle.pure_definitions.specs.Names.{Label}
 use Rattle.pure_definitions.specs.Terms.Term.{Term}
@@ -28,10 +28,10 @@ use Rattle.pure_check_work.proofs.StandLaws.{IsBefore, fork-before}
 -- a theory that closes binds more lemmas than stand before one of its own
 more-forks : (texts : List (List ℕ)) (theories : List Loaded) → IsLoadedSession texts theories → (j k count : ℕ) (f : Fork) (value : Outline) → IsFork texts theories j k f → ClosesAfter texts theories j count value → k < count
 more-forks texts theories loaded j k count f value is closes =
-    let w = run-closed texts theories loaded j (is.notes ++ Forked f ∷ []) is.now is.left is.run closes.1 in
-    let long : length (forks_of ((is.notes ++ Forked f ∷ []) ++ w.3)) ≡ count = ap (λ (ns : List Note). length (forks_of ns)) (sym w.4) ∙ ap (λ (v : Verdict). length (forks_of (notes_of v))) (sym w.2) ∙ closes.3 in
-    let outer = ap length (forks-append (is.notes ++ Forked f ∷ []) w.3) ∙ length-append (forks_of (is.notes ++ Forked f ∷ [])) (forks_of w.3) in
-    let inner = ap length (forks-append is.notes (Forked f ∷ [])) ∙ length-append (forks_of is.notes) (f ∷ []) in
+    let w = run-closed texts theories loaded j (is.notes ++ Forked f ∷ is.more) is.now is.left is.run closes.1 in
+    let long : length (forks_of ((is.notes ++ Forked f ∷ is.more) ++ w.3)) ≡ count = ap (λ (ns : List Note). length (forks_of ns)) (sym w.4) ∙ ap (λ (v : Verdict). length (forks_of (notes_of v))) (sym w.2) ∙ closes.3 in
+    let outer = ap length (forks-append (is.notes ++ Forked f ∷ is.more) w.3) ∙ length-append (forks_of (is.notes ++ Forked f ∷ is.more)) (forks_of w.3) in
+    let inner = ap length (forks-append is.notes (Forked f ∷ is.more)) ∙ length-append (forks_of is.notes) (f ∷ forks_of is.more) in
     omega (arith, long, outer, inner, is.count)
 
 module _ (texts : List (List ℕ)) (theories : List Loaded) (loaded : IsLoadedSession texts theories) (s : State Fork Outline Outcome) (legal : IsLegal (shape_of theories) (ForksAfter texts theories) (ClosesAfter texts theories) (IsOutcomeOf texts) is_fault s) where

@@ -1,19 +1,14 @@
 -- The lemmas of a session that was checked on a board, as a policy sees them.
-use Rattle.std.proofs.Common.{◌≡◌, ℕ, List, [], ◌∷◌, ◌++◌, length, map, take, refl, sym, ap, subst, true, false, Some, slice_get}
+use Rattle.std.proofs.Common.{◌≡◌, ℕ, List, [], ◌∷◌, length, map, take, refl, sym, ap, subst, true, false, Some, slice_get}
 use Rattle.pure_text.specs.Lists.{Each}
-use Rattle.pure_text.proofs.ListLaws.{each_of, each_at, each-right}
-use Rattle.pure_definitions.specs.Names.{Label}
+use Rattle.pure_text.proofs.ListLaws.{each_of, each_at}
 use Rattle.pure_graph.specs.Order.{Loaded}
-use Rattle.pure_grammar.specs.Theories.TheoryText.{Command}
-use Rattle.pure_table.specs.Declare.Notes.{Fork, Forked}
+use Rattle.pure_table.specs.Declare.Notes.{Fork}
 use Rattle.pure_table.specs.Method.Outcome.{IsOutcomeOf}
 use Rattle.pure_table.specs.Method.declared.outcome.Outcome.{Outcome}
 use Rattle.pure_table.specs.Method.declared.outcome.Outcome.TheVariants as shown
 use Rattle.pure_table.specs.SessionLaws.Loaded.{IsLoadedSession}
-use Rattle.pure_table.specs.SessionMeaning.Statements.{forks_of, IsRun, IsFork}
-use Rattle.pure_table.proofs.SessionMeaning.NoteLaws.{forks-append}
-use Rattle.pure_table.proofs.SessionMeaning.StepLaws.{run_begins}
-use Rattle.pure_table.proofs.SessionMeaning.LabelLaws.{IsFrom, commands-from}
+use Rattle.pure_table.proofs.SessionMeaning.LabelLaws.{fork-theory}
 use Rattle.pure_table.specs.TheoryRun.Checked.{Checked}
 use Rattle.pure_table.specs.TheoryRun.Outline.{Outline}
 use Rattle.pure_machine.specs.Policy.{Policy, Opening}
@@ -36,15 +31,6 @@ use Rattle.pure_check_work.specs.Boards.{IsBoardOf}
 use Rattle.pure_check_work.specs.Cancelled.{cancelled_labels, entry_of, entries_of}
 use Rattle.pure_check_work.specs.Heeded.{lot_of, gone_labels, SessionIsHeeded}
 use Rattle.pure_check_work.proofs.RunLaws.{shape-formed}
-
--- the label of a lemma has the index of its theory
-pub fork-theory : (texts : List (List ℕ)) (theories : List Loaded) → IsLoadedSession texts theories → (index others : ℕ) (f : Fork) → IsFork texts theories index others f → f.label.theory ≡ index
-fork-theory texts theories loaded index others f is =
-    let r = is.run in
-    let begun = run_begins texts theories index r.theory r.is_at r.parents r.closed r.first r.begins in
-    let from = commands-from texts theories loaded index r.theory r.is_at r.done is.left [] r.first (subst (λ (cs : List Command). IsRun texts theories index [] r.first cs) r.commands begun) (is.notes ++ Forked f ∷ []) is.now r.declared in
-    let last = each-right (IsFrom index 0) (forks_of is.notes) (f ∷ []) (subst (Each (IsFrom index 0)) (forks-append is.notes (Forked f ∷ [])) from.from) in
-    ap (λ (l : Label). l.theory) last.0.label
 
 -- a promise that is over, of a theory that its lemma's label has
 record IsPlain (p : Promise Fork Outcome) : Type 0 where
@@ -89,7 +75,7 @@ module _ (texts : List (List ℕ)) (theories : List Loaded) (loaded : IsLoadedSe
   plain-promise : (n : ℕ) (p : Promise Fork Outcome) → slice_get (board.core).promises n ≡ Some p → (p.goal).label.theory ≡ p.theory
   plain-promise n p stands =
       let placed : IsPlaced (board.core).promises n p.theory (length (promises_of p.theory (take n (board.core).promises))) = record { promise = p; stands = stands; theory_is = refl; count = refl } in
-      fork-theory texts theories loaded p.theory (length (promises_of p.theory (take n (board.core).promises))) p.goal
+      fork-theory texts theories p.theory (length (promises_of p.theory (take n (board.core).promises))) p.goal
       (goals-forked (shape_of theories) (ForksAfter texts theories) (ClosesAfter texts theories) (IsOutcomeOf texts) is_fault board.core board-legal n p.theory (length (promises_of p.theory (take n (board.core).promises))) placed).lemma
 
   plain-ordered : (ordered : List (Promise Fork Outcome)) → AreInOrder (board.core).promises ordered → Each IsPlain ordered

@@ -12,7 +12,6 @@ use Rattle.pure_table.specs.SessionLaws.Loaded.{IsLoadedSession}
 use Rattle.pure_table.specs.SessionMeaning.Verdicts.{Verdict, Barred, Ran, Closes}
 use Rattle.pure_table.specs.SessionMeaning.Statements.{notes_of, forks_of, IsRun, IsFork}
 use Rattle.pure_table.proofs.SessionMeaning.NoteLaws.{forks-append, closes-run}
-use Rattle.pure_table.proofs.SessionMeaning.FrontLaws.{run-front}
 use Rattle.pure_table.proofs.SessionMeaning.StatementLaws.{fork_once}
 use Rattle.pure_table.specs.TheoryRun.Outline.{Outline, outline}
 use Rattle.pure_table.specs.TheoryRun.Sessions.{HaveClosed, AreSaid}
@@ -22,7 +21,7 @@ use Rattle.pure_check_work.specs.Relations.{shape_of, ForksAfter, ClosesAfter}
 use Rattle.pure_check_work.specs.Cancelled.{lemmas_of}
 
 -- where the lemma after so many others stands among notes
-pub fork-at : (ns : List Note) (n : ℕ) (f : Fork) → slice_get (forks_of ns) n ≡ Some f → (front : List Note) × (back : List Note) × (ns ≡ (front ++ Forked f ∷ []) ++ back) × (length (forks_of front) ≡ n)
+pub fork-at : (ns : List Note) (n : ℕ) (f : Fork) → slice_get (forks_of ns) n ≡ Some f → (front : List Note) × (back : List Note) × (ns ≡ front ++ Forked f ∷ back) × (length (forks_of front) ≡ n)
 fork-at [] n f e = absurd (none-some f e)
 fork-at (Said row ∷ ns) n f e = let w = fork-at ns n f e in (Said row ∷ w.0, w.1, ap (λ (x : List Note). Said row ∷ x) w.2, w.3)
 fork-at (Forked g ∷ ns) zero f e = ([], ns, ap (λ (x : Fork). Forked x ∷ ns) (same_Some g f e), refl)
@@ -35,8 +34,7 @@ module _ (texts : List (List ℕ)) (theories : List Loaded) where
   verdict-forks i (Ran notes last) closes n f e =
       let w = fork-at notes n f e in
       let run = closes-run closes notes last refl in
-      let front = run-front texts theories i (w.0 ++ Forked f ∷ []) w.1 last [] (subst (λ (ns : List Note). IsRun texts theories i ns last []) w.2 run) in
-      record { notes = w.0; now = front.0; left = front.1; run = front.2; count = w.3 }
+      record { notes = w.0; more = w.1; now = last; left = []; run = subst (λ (ns : List Note). IsRun texts theories i ns last []) w.2 run; count = w.3 }
 
   module _ (loaded : IsLoadedSession texts theories) where
     -- lists of forks of one theory that are as long are equal

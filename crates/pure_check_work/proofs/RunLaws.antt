@@ -1,5 +1,5 @@
 -- The runs of a session as runs of the core's work.
-use Rattle.std.proofs.Common.{◌≡◌, ◌≢◌, ◌∙◌, ◌<◌, ◌≤◌, ℕ, zero, suc, ◌+◌, List, [], ◌∷◌, ◌++◌, length, map, length-append, refl, sym, ap, subst, arith, Some, None, slice_get}
+use Rattle.std.proofs.Common.{◌≡◌, ◌≢◌, ◌∙◌, ◌<◌, ◌≤◌, ℕ, zero, suc, ◌+◌, List, [], ◌∷◌, ◌++◌, length, map, append_assoc, length-append, refl, sym, ap, subst, arith, Some, None, slice_get}
 use Rattle.std.specs.Prelude.{Result, Ok, Err, OnErr}
 use Rattle.std.proofs.lemmas.Option.{none-some}
 use Rattle.pure_text.specs.Lists.{Each, EachTwo}
@@ -8,13 +8,14 @@ use Rattle.pure_graph.specs.Order.{Loaded}
 use Rattle.pure_grammar.specs.Theories.TheoryText.{Command}
 use Rattle.pure_logic.specs.Content.{Content}
 use Rattle.pure_table.specs.Declare.Notes.{Fork, Note, Said, Forked}
+use Rattle.pure_table.specs.Declare.Seen.{seen_notes}
 use Rattle.pure_table.specs.SessionMeaning.Verdicts.{Verdict, IsTheoryAt, Closes, AllClose, nothing, also}
 use Rattle.pure_table.specs.SessionMeaning.Statements.{notes_of, forks_of, IsRun}
 use Rattle.pure_table.specs.SessionLaws.Loaded.{IsLoadedSession}
 use Rattle.pure_table.proofs.SessionMeaning.NoteLaws.{forks-append}
 use Rattle.pure_table.specs.TheoryRun.Outline.{Outline, outline}
 use Rattle.pure_table.specs.TheoryRun.Parents.{AreOutlinesOf, HasParents}
-use Rattle.pure_table.specs.TheoryRun.Runs.{IsBarredBy, IsUnderWay, IsStandingOf, IsRunOf, IsSameStanding, IsSameRun, left_of, turns_left}
+use Rattle.pure_table.specs.TheoryRun.Runs.{IsBarredBy, IsStandingOf, IsRunOf, IsSameStanding, IsSameRun, left_of, turns_left}
 use Rattle.pure_table.specs.TheoryRun.Turns as turns
 use Rattle.pure_table.specs.TheoryRun.Checked.{Checked}
 use Rattle.pure_table.specs.TheoryRun.declared.run.Run.{Run}
@@ -77,9 +78,12 @@ has-parents texts theories f i values h =
 not-empty : {A : Type 0} (xs : List A) (x : A) → (xs ++ x ∷ []) ≡ [] → ⊥
 not-empty xs x e = absurd (omega (arith, ap length e, length-append xs (x ∷ [])))
 
-runs-under : (texts : List (List ℕ)) (theories : List Loaded) (i : ℕ) (notes : List Note) (note : Note) (s : Standing) → IsStandingOf texts theories i (notes ++ note ∷ []) s → (now : Content) × (left : List Command) × IsRun texts theories i (notes ++ note ∷ []) now left
+runs-under : (texts : List (List ℕ)) (theories : List Loaded) (i : ℕ) (notes : List Note) (note : Note) (s : Standing) → IsStandingOf texts theories i (notes ++ note ∷ []) s
+    → (more : List Note) × (now : Content) × (left : List Command) × IsRun texts theories i (notes ++ note ∷ more) now left
 runs-under texts theories i notes note (standing.Barred row) h = absurd (not-empty notes note h.0)
-runs-under texts theories i notes note (standing.Going going) h = (going.now.value, h.way.commands, h.way.run)
+runs-under texts theories i notes note (standing.Going going) h =
+    let more = seen_notes going.waiting.items in
+    (more, going.now.value, h.way.commands, subst (λ (ns : List Note). IsRun texts theories i ns going.now.value h.way.commands) (append_assoc notes (note ∷ []) more) h.way.run)
 
 one-more : (notes : List Note) (f : Fork) (n : ℕ) → length (forks_of notes) ≡ n → length (forks_of (notes ++ Forked f ∷ [])) ≡ n + 1
 one-more notes f n count = ap length (forks-append notes (Forked f ∷ [])) ∙ length-append (forks_of notes) (f ∷ []) ∙ ap (λ m. m + 1) count
@@ -96,7 +100,7 @@ pub turn-of : (texts : List (List ℕ)) (theories : List Loaded) (i n : ℕ) (no
 turn-of texts theories i n notes old new turn.Declared count h = ((notes ++ Said h.0 ∷ [], h.1, no-more notes h.0 n count), h.2)
 turn-of texts theories i n notes old new (turn.Forked command goal) count h =
     let run = runs-under texts theories i notes (Forked goal) new.standing h.0.standing in
-    (record { lemma = record { notes = notes; now = run.0; left = run.1; run = run.2; count = count }; command_is = h.2 }, (notes ++ Forked goal ∷ [], h.0, one-more notes goal n count), h.1)
+    (record { lemma = record { notes = notes; more = run.0; now = run.1; left = run.2; run = run.3; count = count }; command_is = h.2 }, (notes ++ Forked goal ∷ [], h.0, one-more notes goal n count), h.1)
 turn-of texts theories i n notes old new (turn.Closed value) count h = (h.1.verdict, h.1.closes, h.1.value_is, ap length h.1.forks ∙ count)
 
 -- at the beginning
@@ -120,7 +124,13 @@ same-standing texts theories i notes (standing.Barred old) (standing.Barred new)
 same-standing texts theories i notes (standing.Barred old) (standing.Going new) same h = absurd same
 same-standing texts theories i notes (standing.Going old) (standing.Barred new) same h = absurd same
 same-standing texts theories i notes (standing.Going old) (standing.Going new) same h = record {
-  way = subst (λ (now : Content). IsUnderWay texts theories i notes now new.left) (sym same.content) (subst (IsUnderWay texts theories i notes old.now.value) (sym same.left) h.way);
+  way = record {
+    commands = h.way.commands;
+    run = subst (λ (items : List _). IsRun texts theories i (notes ++ seen_notes items) new.now.value h.way.commands) (sym same.waiting)
+        (subst (λ (now : Content). IsRun texts theories i (notes ++ seen_notes old.waiting.items) now h.way.commands) (sym same.content) h.way.run);
+    count = same.left ∙ h.way.count;
+    parts_are = same.parts ∙ h.way.parts_are;
+  };
   rows = same.rows ∙ h.rows;
 }
 
@@ -128,7 +138,7 @@ same-left : (old new : Standing) → IsSameStanding old new → left_of new ≡ 
 same-left (standing.Barred old) (standing.Barred new) same = refl
 same-left (standing.Barred old) (standing.Going new) same = absurd same
 same-left (standing.Going old) (standing.Barred new) same = absurd same
-same-left (standing.Going old) (standing.Going new) same = same.left
+same-left (standing.Going old) (standing.Going new) same = λ j. same.parts j + length (same.waiting j)
 
 same-run : (texts : List (List ℕ)) (theories : List Loaded) (i : ℕ) (notes : List Note) (old new : Run) → IsSameRun old new → IsRunOf texts theories i notes old → IsRunOf texts theories i notes new
 same-run texts theories i notes old new same h = record { index_is = same.index ∙ h.index_is; standing = same-standing texts theories i notes old.standing new.standing same.standing h.standing }

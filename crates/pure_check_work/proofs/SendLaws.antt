@@ -19,6 +19,7 @@ use Rattle.pure_theory_tables.specs.contracts.declarations.Declarations as decla
 use Rattle.pure_table.specs.Theory.contracts.theory.Theory as theory
 use Rattle.pure_table.specs.Theory.contracts.cthm.Cthm as cthm
 use Rattle.pure_table.specs.Declare.contracts.notes.Duty as duty
+use Rattle.pure_table.specs.Declare.contracts.notes.Note as note
 use Rattle.pure_table.specs.Method.contracts.outcome.Outcome as outcome
 use Rattle.pure_table.specs.TheoryRun.contracts.closed.Closed as closed
 use Rattle.pure_table.specs.TheoryRun.contracts.run.Run as run
@@ -80,6 +81,12 @@ duty_send = search (theory_send, theory_sync, term_send, term_sync, step_send, c
 pub duty_sync : IsSync duty.the_row
 duty_sync = search (theory_send, theory_sync, term_send, term_sync, step_sync, crosses, sendable) depth 60
 
+note_send : IsSend note.the_row
+note_send = search (duty_send, crosses, sendable) depth 60
+
+note_sync : IsSync note.the_row
+note_sync = search (duty_sync, crosses, sendable) depth 60
+
 pub outcome_send : IsSend outcome.the_row
 outcome_send = search (cthm_send, crosses, sendable) depth 60
 
@@ -93,10 +100,10 @@ pub closed_sync : IsSync closed.the_row
 closed_sync = search (theory_send, theory_sync, crosses, sendable) depth 60
 
 pub run_send : IsSend run.the_row
-run_send = search (theory_send, theory_sync, crosses, sendable) depth 60
+run_send = search (note_send, theory_send, theory_sync, crosses, sendable) depth 60
 
 pub run_sync : IsSync run.the_row
-run_sync = search (theory_send, theory_sync, crosses, sendable) depth 60
+run_sync = search (note_sync, theory_send, theory_sync, crosses, sendable) depth 60
 
 checker_send : IsSend checker.the_row
 checker_send = search (names_send, loaded_send, theory_send, theory_sync, crosses, sendable) depth 60 fits 20000

@@ -1,8 +1,8 @@
 -- Whose the promises of a content are: lemmas of its own theory, bound before, and of the theory's ancestors.
-use Rattle.std.proofs.Common.{◌≡◌, ◌∙◌, ◌⊎◌, ◌<◌, ℕ, zero, suc, ◌+◌, List, [], ◌∷◌, ◌++◌, length, map, refl, sym, ap, subst, arith, Some, None, slice_get, inl, inr}
+use Rattle.std.proofs.Common.{◌≡◌, ◌∙◌, ◌⊎◌, ◌<◌, ℕ, zero, suc, ◌+◌, List, [], ◌∷◌, ◌++◌, length, map, append_assoc, append-nil, refl, sym, ap, subst, arith, Some, None, slice_get, inl, inr}
 use Rattle.std.proofs.lemmas.Option.{none-some, same_Some, slice_get_within}
 use Rattle.pure_text.specs.Lists.{IsIn, Each, EachTwo}
-use Rattle.pure_text.proofs.ListLaws.{any_some}
+use Rattle.pure_text.proofs.ListLaws.{any_some, in-append_left, in-append_right}
 use Rattle.pure_definitions.specs.Names.{Label}
 use Rattle.pure_definitions.specs.Terms.Term.{Term}
 use Rattle.pure_definitions.specs.Declarations.Decl.{PromiseDecl}
@@ -12,13 +12,14 @@ use Rattle.pure_logic.specs.PureContent.{pure_content}
 use Rattle.pure_logic.proofs.MergeLaws.{merge_has_declarations}
 use Rattle.pure_graph.specs.Order.{Loaded}
 use Rattle.pure_table.specs.Declare.Notes.{Note, Fork, Said, Forked}
-use Rattle.pure_table.specs.Declare.First.{AreDeclared}
-use Rattle.pure_table.proofs.Declare.PromisedLaws.{declares_promises}
+use Rattle.pure_table.specs.Declare.Parts.{Part}
+use Rattle.pure_table.specs.Declare.Fold.{part_label, AreParts, AreDeclared}
+use Rattle.pure_table.proofs.Declare.PartLaws.{parts_promise}
 use Rattle.pure_table.specs.SessionLaws.Loaded.{IsLoadedSession}
 use Rattle.pure_table.specs.SessionMeaning.Verdicts.{Verdict, Barred, Ran, IsTheoryAt, AreLast, Begins, beginning_over, Closes, barred, ran, AllClose, nothing, also}
 use Rattle.pure_table.specs.SessionMeaning.Statements.{forks_of, IsRun, IsFork}
-use Rattle.pure_table.proofs.SessionMeaning.FrontLaws.{run-front}
-use Rattle.pure_table.proofs.SessionMeaning.ForkLaws.{fork-left, left-bound}
+use Rattle.pure_table.specs.SessionMeaning.Steps.{command_label}
+use Rattle.pure_table.proofs.SessionMeaning.ForkLaws.{IsLeft, fork-left, left-bound}
 use Rattle.pure_table.proofs.SessionMeaning.OrderlyLaws.{no_promise-in_pure}
 use Rattle.pure_machine.specs.State.{parents_at}
 use Rattle.pure_core_end.specs.Places.{IsAncestor, parent, above, ComesBefore}
@@ -30,16 +31,33 @@ mapped-at f [] n x e = absurd (none-some x e)
 mapped-at f (y ∷ ys) zero x e = ap (λ z. Some (f z)) (same_Some y x e)
 mapped-at f (y ∷ ys) (suc n) x e = mapped-at f ys n x e
 
+-- A promise with this label and statement stood in the content, or is that of a lemma among the notes.
+abbrev Adds : Content → List Note → (x : ℕ) → Label → Term → Type 0
+Adds Q notes x l A = IsIn (PromiseDecl x l A) Q.declarations ⊎ ((f : Fork) × IsIn (Forked f) notes × (f.label ≡ l) × (f.prop ≡ A))
+
+adds-more : (Q : Content) (notes more : List Note) (x : ℕ) (l : Label) (A : Term) → Adds Q notes x l A → Adds Q (notes ++ more) x l A
+adds-more Q notes more x l A (inl old) = inl old
+adds-more Q notes more x l A (inr (f, m, label, prop)) = inr (f, in-append_left (Forked f) notes more m, label, prop)
+
+-- what the parts of a command add
+parts-promises : (texts : List (List ℕ)) (source : List ℕ) (label : Label) (place : ℕ) (Q : Content) (parts : List Part) (notes : List Note) (R : Content) → AreParts texts source label place Q parts notes R
+    → (x : ℕ) (l : Label) (A : Term) → IsIn (PromiseDecl x l A) R.declarations → Adds Q notes x l A
+parts-promises texts source label place Q [] notes R h x l A m = inl (subst (λ (P : Content). IsIn (PromiseDecl x l A) P.declarations) h.1 m)
+parts-promises texts source label place Q (part ∷ parts) notes R h x l A m = elim (parts-promises texts source label (place + 1) h.1 parts h.2 R h.4 x l A m) [
+  | inr later ↦ inr (later.0, subst (IsIn (Forked later.0)) (sym h.5) (inr later.1), later.2, later.3)
+  | inl before ↦ elim (parts_promise texts source (part_label label place) Q part h.0 h.1 h.3 x l A before) [
+    | inl old ↦ inl old
+    | inr new ↦ inr (new.0, subst (IsIn (Forked new.0)) (sym h.5) (inl (sym new.1)), new.3, new.4)
+  ]
+]
+
 -- what a fold adds
 fold-promises : (texts : List (List ℕ)) (source : List ℕ) (i place : ℕ) (Q : Content) (cs : List Command) (notes : List Note) (R : Content) → AreDeclared texts source i place Q cs notes R → (x : ℕ) (l : Label) (A : Term) → IsIn (PromiseDecl x l A) R.declarations
-    → IsIn (PromiseDecl x l A) Q.declarations ⊎ ((f : Fork) × IsIn (Forked f) notes × (f.label ≡ l) × (f.prop ≡ A))
+    → Adds Q notes x l A
 fold-promises texts source i place Q [] notes R h x l A m = inl (subst (λ (P : Content). IsIn (PromiseDecl x l A) P.declarations) h.1 m)
 fold-promises texts source i place Q (c ∷ cs) notes R h x l A m = elim (fold-promises texts source i (place + 1) h.1 cs h.2 R h.4 x l A m) [
-  | inr later ↦ inr (later.0, subst (IsIn (Forked later.0)) (sym h.5) (inr later.1), later.2, later.3)
-  | inl before ↦ elim (declares_promises texts source (record { theory = i; command = place; part = 0 }) Q c h.0 h.1 h.3 x l A before) [
-    | inl old ↦ inl old
-    | inr new ↦ inr (new.0, subst (IsIn (Forked new.0)) (sym h.5) (inl (sym new.1)), new.2, new.3)
-  ]
+  | inr later ↦ inr (later.0, subst (IsIn (Forked later.0)) (sym h.5) (in-append_right (Forked later.0) h.0 h.2 later.1), later.2, later.3)
+  | inl before ↦ subst (λ (ns : List Note). Adds Q ns x l A) (sym h.5) (adds-more Q h.0 h.2 x l A (parts-promises texts source (command_label i place) 0 Q h.3.parts h.0 h.1 h.3.are x l A before))
 ]
 
 -- its place among the lemmas
@@ -108,23 +126,29 @@ module _ (texts : List (List ℕ)) (theories : List Loaded) where
       from [] of (P, inr none, n) = absurd none
       from (Q ∷ Qs) of (P, among, n) = (let there = of P among in raised i there.0 theory at there.1 l A count (there.2 x l A n))
 
+  -- of a lemma among the first notes of a run
+  among-before : (i : ℕ) (notes : List Note) (now : Content) (left : List Command) → IsRun texts theories i notes now left → (front back : List Note) → notes ≡ front ++ back → (f : Fork) → IsIn (Forked f) front
+      → (l : Label) (A : Term) → f.label ≡ l → f.prop ≡ A → IsBefore i (length (forks_of front)) l A
+  among-before i notes now left run front back e f m l A label prop =
+      let number = fork-number front f m in
+      let w = fork-at front number.0 f number.1 in
+      let notes_are : notes ≡ w.0 ++ Forked f ∷ (w.1 ++ back) = e ∙ ap (λ (ns : List Note). ns ++ back) w.2 ∙ append_assoc w.0 (Forked f ∷ w.1) back in
+      record {
+        theory = i;
+        others = number.0;
+        fork = f;
+        is = record { notes = w.0; more = w.1 ++ back; now = now; left = left; run = subst (λ (ns : List Note). IsRun texts theories i ns now left) notes_are run; count = w.3 };
+        label = label;
+        prop = prop;
+        comes = inr (refl, slice_get_within (forks_of front) number.0 f number.1);
+      }
+
   -- of the content of a run
   run-before : (i : ℕ) (notes : List Note) (now : Content) (left : List Command) (run : IsRun texts theories i notes now left) → ((P : Content) → IsIn P (run.begins).contents → (p : ℕ) × IsIn p (run.theory).parents × AreOf p P)
       → (x : ℕ) (l : Label) (A : Term) → IsIn (PromiseDecl x l A) now.declarations → IsBefore i (length (forks_of notes)) l A
   run-before i notes now left run of x l A m = elim (fold-promises texts (run.theory).source i 0 run.first run.done notes now run.declared x l A m) [
     | inl old ↦ first-before i run.theory run.is_at run.parents run.first run.begins of (length (forks_of notes)) x l A old
-    | inr new ↦ (let number = fork-number notes new.0 new.1 in
-        let w = fork-at notes number.0 new.0 number.1 in
-        let front = run-front texts theories i (w.0 ++ Forked new.0 ∷ []) w.1 now left (subst (λ (ns : List Note). IsRun texts theories i ns now left) w.2 run) in
-        record {
-          theory = i;
-          others = number.0;
-          fork = new.0;
-          is = record { notes = w.0; now = front.0; left = front.1; run = front.2; count = w.3 };
-          label = new.2;
-          prop = new.3;
-          comes = inr (refl, slice_get_within (forks_of notes) number.0 new.0 number.1);
-        })
+    | inr new ↦ among-before i notes now left run notes [] (sym (append-nil notes)) new.0 new.1 l A new.2 new.3
   ]
 
   mutual
@@ -159,8 +183,20 @@ module _ (texts : List (List ℕ)) (theories : List Loaded) where
 
   -- of the content over which a lemma stands
   pub fork-before : IsLoadedSession texts theories → (i k : ℕ) (f : Fork) → IsFork texts theories i k f → (x : ℕ) (l : Label) (A : Term) → IsIn (PromiseDecl x l A) f.content.declarations → IsBefore i k l A
-  fork-before loaded i k f is x l A m =
-      let left = fork-left texts theories i k f is in
-      let bound = left-bound texts theories loaded i is.notes f is.now left in
-      subst (λ n. IsBefore i n l A) is.count
-      (run-before i is.notes left.before (left.command ∷ left.left) left.run (all-of (left.run).closed ((left.run).begins).contents ((left.run).begins).last) x l A (subst (λ (Q : Content). IsIn (PromiseDecl x l A) Q.declarations) bound.content_is m))
+  fork-before loaded i k f is x l A m = subst (λ n. IsBefore i n l A) is.count (elim added [
+    | inl old ↦ first-before i (left.run).theory (left.run).is_at (left.run).parents (left.run).first (left.run).begins (all-of (left.run).closed ((left.run).begins).contents ((left.run).begins).last) (length (forks_of is.notes)) x l A old
+    | inr new ↦ among-before i (is.notes ++ Forked f ∷ is.more) is.now is.left is.run is.notes (Forked f ∷ is.more) refl new.0 new.1 l A new.2 new.3
+  ])
+    where
+      left : IsLeft texts theories i is.notes f
+      left = fork-left texts theories i k f is
+
+      there : IsIn (PromiseDecl x l A) left.now.declarations
+      there = subst (λ (Q : Content). IsIn (PromiseDecl x l A) Q.declarations) (left-bound texts theories loaded i is.notes f left).content_is m
+
+      added : Adds (left.run).first is.notes x l A
+      added = subst (λ (ns : List Note). Adds (left.run).first ns x l A) (sym left.notes_are)
+          (elim (parts-promises texts ((left.run).theory).source (command_label i (length (left.run).done)) 0 left.before (left.amid).passed left.inner left.now (left.amid).are x l A there) [
+            | inl old ↦ adds-more (left.run).first left.whole left.inner x l A (fold-promises texts ((left.run).theory).source i 0 (left.run).first (left.run).done left.whole left.before (left.run).declared x l A old)
+            | inr new ↦ inr (new.0, in-append_right (Forked new.0) left.whole left.inner new.1, new.2, new.3)
+          ])

@@ -14,7 +14,7 @@ use Rattle.pure_table.specs.TheoryRun.declared.run.Run.{Run}
 abbrev pub shape_of : List Loaded → List (List ℕ)
 shape_of = map (λ (l : Loaded). l.parents)
 
--- The theory with this index may fork this lemma after so many others, under this command: it is the one that it binds after so many, and the command is that of its label.
+-- The theory with this index may fork this lemma or have after so many others, under this command: it is the one that it binds after so many, and the command is that of its label.
 pub record ForksAfter (texts : List (List ℕ)) (theories : List Loaded) (index others command : ℕ) (fork : Fork) : Type 0 where
   pub lemma : IsFork texts theories index others fork
   pub command_is : command ≡ fork.label.command

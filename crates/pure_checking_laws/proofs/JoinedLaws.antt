@@ -25,10 +25,10 @@ use Rattle.pure_check_work.specs.Promise.Entries.{LemmaEntry, plain, plain_own}
 use Rattle.pure_check_work.specs.Promise.Joining.{IsShown}
 use Rattle.pure_check_work.specs.SessionLaws.Loaded.{IsLoadedSession}
 use Rattle.pure_check_work.specs.SessionMeaning.Statements.{IsFork}
-use Rattle.pure_check_work.proofs.SessionMeaning.PromiseLaws.{promises_are_forks}
+use Rattle.pure_check_work.proofs.SessionMeaning.PromiseLaws.{promises_before_forks}
 use Rattle.pure_check_work.specs.TheoryRun.Outline.{Outline}
 use Rattle.pure_check_work.proofs.Table.ClaimLaws.{IsShownBy}
-use Rattle.pure_check_work.proofs.Table.DerivedLaws.{standing, shown_by}
+use Rattle.pure_check_work.proofs.Table.DerivedLaws.{shown_by}
 use Rattle.pure_machine.specs.State.{State, Promise, Standing, Ready, Taken, Settled, Cancelled}
 use Rattle.pure_machine.specs.Step.{Stands}
 use Rattle.pure_core_end.specs.Promises.{promises_of}
@@ -113,8 +113,7 @@ module _ (texts : List (List ℕ)) (theories : List Loaded) (loaded : IsLoadedSe
       let other = forked m c there in
       let before = fork-before texts theories loaded b.theory (others_of n b) b.goal is name (c.goal).label A declared in
       let one = one_lemma texts theories loaded c.theory (others_of m c) before.theory before.others c.goal before.fork other before.is (sym before.label) in
-      let stand = standing texts theories loaded b.goal (b.theory, others_of n b, is) in
-      let fork = promises_are_forks texts theories loaded stand.index stand.notes (b.goal).content stand.left stand.run name (c.goal).label A declared in
+      let fork = promises_before_forks texts theories loaded b.goal (b.theory, others_of n b, is) name (c.goal).label A declared in
       let same = one_lemma texts theories loaded c.theory (others_of m c) fork.1.0 fork.1.1 c.goal fork.0 other fork.1.2 (sym fork.2.label) in
       record {
         smaller = smaller-numbers (shape_of theories) (ForksAfter texts theories) (ClosesAfter texts theories) (IsOutcomeOf texts) is_fault s legal m n before.theory before.others b.theory (others_of n b)

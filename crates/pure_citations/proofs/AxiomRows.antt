@@ -1,5 +1,5 @@
 -- The row of a command that declares an axiom.
-use Rattle.std.proofs.Common.{◌≡◌, ◌⊎◌, ◌∙◌, ℕ, List, [], ◌∷◌, ◌++◌, inl, inr, refl, sym, ap, subst}
+use Rattle.std.proofs.Common.{◌≡◌, ◌⊎◌, ◌∙◌, ℕ, ◌+◌, List, [], ◌∷◌, ◌++◌, inl, inr, refl, sym, ap, subst}
 use Rattle.std.specs.Prelude.{Result, Ok, Err}
 use Rattle.pure_text.specs.Lists.{IsIn}
 use Rattle.pure_text.proofs.ListLaws.{in_split}
@@ -20,7 +20,10 @@ use Rattle.pure_statements.specs.Chain.{Gives, refuses, goes_on, holds, passes}
 use Rattle.pure_statements.specs.Rows.{declared_row}
 use Rattle.pure_table.specs.Declare.Notes.{Note, Said, Forked, Outcome, Change}
 use Rattle.pure_table.specs.Declare.Commands.{Place, IsOutcome, IsSaid, IsNewClassChange, IsClassChange, IsTypeChange, IsFoundArityChange, IsClassArityChange, IsDomainsArityChange, IsArityChange, IsNewConstChange, IsConstChange, IsAxiomChange, IsBodyChange, IsTermChange, IsTypedChange, IsTreeChange, IsTextChange, IsNewDefinitionChange, IsDefinitionChange, IsLemmaOutcome, declaring, declaring_const, declaring_definition, declaring_axiom, saying, forking, fact_base, definition_end}
-use Rattle.pure_table.specs.Declare.First.{Declares as DeclaresSo, IsDeclaredAs, outcome_of}
+use Rattle.pure_table.specs.Declare.First.{Declares as DeclaresSo, outcome_of}
+use Rattle.pure_table.specs.Declare.Parts.{Part, DeclaresPart}
+use Rattle.pure_table.specs.Declare.Fold.{part_label, AreParts}
+use Rattle.pure_table.proofs.Declare.PartLaws.{IsPartDone, by_command, by_binding, by_refusal, part-done, next-bound}
 use Rattle.pure_citations.specs.Heads as heads
 use Rattle.pure_citations.specs.Rowed.{Declares}
 
@@ -32,6 +35,13 @@ IsRowNote texts name note = (row : Row) × (note ≡ Said row) × Declares texts
 abbrev IsNoAxiomDecl : Decl → Type 0
 IsNoAxiomDecl (AxiomDecl x A) = ⊥
 IsNoAxiomDecl _ = Unit {0}
+
+-- Behind a declaration that is no axiom an axiom stood before.
+none-added : (n : ℕ) (A : Term) (ds : List Decl) (d : Decl) → IsNoAxiomDecl d → IsIn (AxiomDecl n A) (ds ++ d ∷ []) → IsIn (AxiomDecl n A) ds
+none-added n A ds d none m = elim (in_split (AxiomDecl n A) ds (d ∷ []) m) [
+  | inl old ↦ old
+  | inr new ↦ elim new [ inl same ↦ absurd (subst IsNoAxiomDecl (sym same) none) | inr void ↦ absurd void ]
+]
 
 next-of : (c D : Change) → Gives D (Ok c) → c.next ≡ D.next
 next-of c D e = let same : c ≡ D = cc in ap (λ (x : Change). x.next) same
@@ -54,10 +64,7 @@ module _ (P : Place) (n : ℕ) (A : Term) where
   Adds c New = IsIn (AxiomDecl n A) c.next.declarations → IsIn (AxiomDecl n A) P.content.declarations ⊎ New
 
   one-decl : (c : Change) (d : Decl) → c.next.declarations ≡ P.content.declarations ++ d ∷ [] → IsNoAxiomDecl d → Adds c ⊥
-  one-decl c d e none m = elim (in_split (AxiomDecl n A) P.content.declarations (d ∷ []) (subst (λ ds. IsIn (AxiomDecl n A) ds) e m)) [
-    | inl old ↦ inl old
-    | inr new ↦ elim new [ inl same ↦ absurd (subst IsNoAxiomDecl (sym same) none) | inr void ↦ absurd void ]
-  ]
+  one-decl c d e none m = inl (none-added n A P.content.declarations d none (subst (λ ds. IsIn (AxiomDecl n A) ds) e m))
 
   class-adds : (k : ℕ) (names : List (List ℕ)) (c : Change) → IsClassChange P k names (Ok c) → Adds c ⊥
   unfolding IsClassChange IsNewClassChange
@@ -167,10 +174,7 @@ module _ (P : Place) (n : ℕ) (A : Term) where
   lemma-comes base m span script o (passes new (refuses reason h e)) in_next = absurd (cc)
   lemma-comes base m span script o (passes new (goes_on s h e)) in_next =
       let same : o ≡ forking P m script s = given-outcome o (forking P m script s) e in
-      elim (in_split (AxiomDecl n A) P.content.declarations (PromiseDecl m P.label s.prop ∷ []) (subst (λ (x : Outcome). IsIn (AxiomDecl n A) x.next.declarations) same in_next)) [
-        | inl old ↦ inl old
-        | inr added ↦ elim added [ inl is ↦ absurd (subst IsNoAxiomDecl (sym is) tt) | inr void ↦ absurd void ]
-      ]
+      inl (none-added n A P.content.declarations (PromiseDecl m P.label s.prop) tt (subst (λ (x : Outcome). IsIn (AxiomDecl n A) x.next.declarations) same in_next))
 
   outcome-comes : (command : Command) (o : Outcome) → IsOutcome P command (Ok o) → Comes o
   outcome-comes (Class x names) o (k, is, h) = said-comes (Class x names) (IsClassChange P k names) ⊥ (class-adds k names) (no-row (Class x names)) o h
@@ -185,9 +189,32 @@ module _ (P : Place) (n : ℕ) (A : Term) where
   answer-comes command o (Ok p) h e = subst Comes (sym e) (outcome-comes command p h)
   answer-comes command o (Err reason) h e = λ m. inl (subst (λ (x : Outcome). IsIn (AxiomDecl n A) x.next.declarations) e m)
 
--- An axiom of a command's next content stood before, or the command's row declares it.
-pub declares_axioms : (texts : List (List ℕ)) (source : List ℕ) (label : Label) (Q : Content) (command : Command) (note : Note) (next : Content) → DeclaresSo texts source label Q command note next → (n : ℕ) (A : Term) → IsIn (AxiomDecl n A) next.declarations
-    → IsIn (AxiomDecl n A) Q.declarations ⊎ IsRowNote texts n note
-declares_axioms texts source label Q command note next h n A m =
-    let P : Place = record { texts = texts; source = source; label = label; theory = h.theory; content = Q } in
-    answer-comes P n A command (record { note = note; next = next }) h.declares.answer h.declares.is h.declares.comes m
+module _ (texts : List (List ℕ)) (source : List ℕ) (n : ℕ) (A : Term) where
+  -- An axiom of a command's next content stood before, or the command's row declares it.
+  declares_axioms : (label : Label) (Q : Content) (command : Command) (note : Note) (next : Content) → DeclaresSo texts source label Q command note next → IsIn (AxiomDecl n A) next.declarations → IsIn (AxiomDecl n A) Q.declarations ⊎ IsRowNote texts n note
+  declares_axioms label Q command note next h m =
+      let P : Place = record { texts = texts; source = source; label = label; theory = h.theory; content = Q } in
+      answer-comes P n A command (record { note = note; next = next }) h.declares.answer h.declares.is h.declares.comes m
+
+  -- So of a part: a have and a lemma's end add promises alone.
+  part_axioms : (label : Label) (Q : Content) (part : Part) (note : Note) (next : Content) → DeclaresPart texts source label Q part note next → IsIn (AxiomDecl n A) next.declarations → IsIn (AxiomDecl n A) Q.declarations ⊎ IsRowNote texts n note
+  part_axioms label Q part note next h m = from (part-done texts source label Q note next part h)
+    where
+      from : IsPartDone texts source label Q part note next → IsIn (AxiomDecl n A) Q.declarations ⊎ IsRowNote texts n note
+      from (by_command command d row e) = declares_axioms label Q command note next d m
+      from (by_binding theory own b p names) =
+          let promise : Decl = PromiseDecl b.number label b.stated.prop in
+          inl (none-added n A Q.declarations promise tt (subst (λ (R : Content). IsIn (AxiomDecl n A) R.declarations) (next-bound texts source label Q note next theory b) m))
+      from (by_refusal row e same) = inl (subst (λ (R : Content). IsIn (AxiomDecl n A) R.declarations) same m)
+
+  -- An axiom of the content behind parts stood before, or a row among their notes declares it.
+  pub parts_axioms : (label : Label) (place : ℕ) (Q : Content) (parts : List Part) (notes : List Note) (last : Content) → AreParts texts source label place Q parts notes last → IsIn (AxiomDecl n A) last.declarations
+      → IsIn (AxiomDecl n A) Q.declarations ⊎ ((note : Note) × IsIn note notes × IsRowNote texts n note)
+  parts_axioms label place Q [] notes last h m = inl (subst (λ (R : Content). IsIn (AxiomDecl n A) R.declarations) h.1 m)
+  parts_axioms label place Q (part ∷ parts) notes last (note, next, more, d, rest, is) m = elim (parts_axioms label (place + 1) next parts more last rest m) [
+    | inr later ↦ inr (later.0, subst (IsIn later.0) (sym is) (inr later.1), later.2)
+    | inl before ↦ elim (part_axioms (part_label label place) Q part note next d before) [
+      | inl old ↦ inl old
+      | inr new ↦ inr (note, subst (IsIn note) (sym is) (inl refl), new)
+    ]
+  ]

@@ -34,7 +34,6 @@ use Rattle.pure_table.proofs.Method.SoundLaws.{proved_in-derivable}
 use Rattle.pure_table.specs.SessionLaws.Loaded.{IsLoadedSession}
 use Rattle.pure_table.specs.SessionMeaning.Statements.{forks_of, AreStatements}
 use Rattle.pure_table.specs.SessionMeaning.Laws.{IsSomeFork}
-use Rattle.pure_table.proofs.SessionMeaning.OrderlyLaws.{runs_orderly}
 use Rattle.pure_table.specs.Table.{IsOwn, IsEntryOf, AreEntriesOf}
 use Rattle.pure_table.proofs.ClaimLaws.{own-shown}
 use Rattle.pure_table.proofs.DerivedLaws.{standing, provable, some_fork, bound, has_fates}
@@ -74,9 +73,7 @@ module _ (texts : List (List ℕ)) (theories : List Loaded) (loaded : IsLoadedSe
   some f m = some_fork texts theories loaded notes statements f m
 
   unify : (f : Fork) → IsIn f fs → IsUnifyContent f.content
-  unify f m =
-      let s = standing texts theories loaded f (some f m) in
-      unify_content f.content (runs_orderly texts theories loaded s.index s.notes f.content s.left s.run).good.sound
+  unify f m = unify_content f.content (standing texts theories loaded f (some f m)).orderly.good.sound
 
   -- What becomes of a lemma is its entry's.
   became : (f : Fork) (e : LemmaEntry) → IsIn e es → IsEntryOf texts cancelled f e → (own : Own) → (plain e).own ≡ own → Became ps f.label own

@@ -35,3 +35,4 @@ pub mod EndLaws
 pub mod HaveSteps
 pub mod DeclareSteps
 pub mod ChainLaws
+pub mod MayLaws

@@ -10,7 +10,9 @@ use Rattle.pure_typ.specs.NameTexts.{HasText}
 use Rattle.pure_logic.specs.Content.{Content}
 use Rattle.pure_lookup.specs.Meaning.{full_text}
 use Rattle.pure_lookup.specs.Laws.{IsInSession}
-use Rattle.pure_theory.specs.Refusals.{IsLabelAbove}
+use Rattle.pure_theory.specs.Refusals.{IsBefore, IsLabelAbove}
+use Rattle.pure_theory_tables.specs.declared.decl.Decl as outlined
+use Rattle.pure_theory_tables.specs.declared.decl.Decl.TheVariants as outlines
 use Rattle.pure_declare.specs.Commands.{IsOwnText, fact_base}
 
 -- the bases of what a command declares; a have has none
@@ -70,3 +72,15 @@ pub record IsGiven (texts : List (List ℕ)) (source : List ℕ) (Q : Content) (
   pub in_session : IsInSession texts Q
   pub small : length source < 4294967295
   pub label_above : IsLabelAbove Q.declarations label
+
+-- The label comes after that of the declaration, if this is a promise.
+abbrev pub IsPassed : Label → outlined.Decl → Type 0
+IsPassed label (outlines.Promise x earlier) = IsBefore earlier label
+IsPassed label _ = Unit {0}
+
+-- A call may declare the command over the content: what it asks of its caller is so.
+pub record MayDeclare (texts : List (List ℕ)) (source : List ℕ) (Q : Content) (command : Command) (label : Label) : Type 0 where
+  pub names : HasNames texts Q command
+  pub ranges : HasRanges source command
+  pub given : IsGiven texts source Q label
+  pub labels : HasPartLabels label command

@@ -45,7 +45,7 @@ fn name_of(place: &Place<'_>, base: &[u8]) -> Name
 
 /// The base of a definition's fact.
 #[tactic(auto, unfolding(crate::specs::Commands::definition_end))]
-fn fact_base(alloc: Global, base: &[u8]) -> Result<Text, AllocError>
+pub(crate) fn fact_base(alloc: Global, base: &[u8]) -> Result<Text, AllocError>
     ensures { IfOk result (λ t. t ≡ spec.fact_base base.now) }
 {
     let mut bytes = Vec::from_slice(alloc, base)?;

@@ -13,6 +13,7 @@ mod language;
 pub mod laws;
 mod lemma;
 mod lookups;
+mod may;
 mod notes;
 mod place;
 mod quoted;
@@ -22,5 +23,6 @@ mod taken;
 
 pub use command::declare;
 pub use language::NamedTheory;
+pub use may::may_declare;
 pub use notes::{Declared, Duty, Note};
 pub use pure_theory as theory;

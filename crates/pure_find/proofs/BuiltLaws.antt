@@ -1,12 +1,11 @@
 -- The built facts are propositions as they are compared; and so is each fact of a content.
-use Rattle.std.proofs.Common.{◌≡◌, ℕ, ◌≤◌, Bool, true, false, ◌&&◌, ◌==◌, List, [], ◌∷◌, inl, inr, refl, sym, ap, subst, arith, nat_eq, Some, None}
+use Rattle.std.proofs.Common.{◌≡◌, ℕ, ◌≤◌, Bool, true, false, ◌&&◌, List, [], ◌∷◌, inl, inr, refl, sym, ap, subst, arith, nat_eq, Some, None}
 use Rattle.std.specs.Prelude.{◌⊎◌, if◌then◌else◌}
 use Rattle.std.specs.List.{flat_map}
 use Rattle.std.proofs.lemmas.Bool.{and_parts, false≢true}
 use Rattle.std.proofs.lemmas.Bool.Decides.{nat_tests}
 use Rattle.pure_text.specs.Lists.{IsIn}
 use Rattle.pure_text.proofs.ListLaws.{in_split}
-use Rattle.pure_definitions.specs.Names.{protect_name}
 use Rattle.pure_definitions.specs.Terms.Term.{Term, Const, Free, Var, Bound, Abs, App}
 use Rattle.pure_definitions.specs.Declarations.Decl.{Decl, ClassDecl, ConDecl, ArityDecl, ConstDecl, AxiomDecl, PromiseDecl}
 use Rattle.pure_definitions.specs.Reduction.Beta.{IsAbs, IsBetaNormal}
@@ -19,6 +18,7 @@ use Rattle.pure_theorem.specs.Built.{built_proposition}
 use Rattle.pure_theorem.specs.declared.built.Built.{Built}
 use Rattle.pure_theorem.specs.declared.built.Built.TheVariants.{Refl, Subst, Ext, Iff, Mp, Spec}
 use Rattle.pure_unify_final.specs.Laws.{HasVariablesUpTo}
+use Rattle.pure_theory_run.specs.Named.{is_written}
 use Rattle.pure_find.specs.Facts.{Fact, fact, built, declared, facts_of, written}
 use Rattle.pure_find.specs.Findings.{IsTidyProposition, StatesTidy}
 
@@ -84,12 +84,12 @@ built-tidy Spec = let h = built_facts_are_statements in tidy-of specialisation h
 
 -- a fact's proposition is what was declared
 written-prop : (texts : List (List ℕ)) (x : ℕ) (A : Term) (f : Fact) → IsIn f (written texts x A) → f.prop ≡ A
-written-prop texts x A f h = by (x == protect_name) h
+written-prop texts x A f h = by (is_written texts x) h
   where
-    by : (b : Bool) → IsIn f (if b then [] else (fact (text_of_name texts x) A ∷ [])) → f.prop ≡ A
-    by true k = absurd k
-    by false (inl e) = ap Fact.prop e
-    by false (inr k) = absurd k
+    by : (b : Bool) → IsIn f (if b then (fact (text_of_name texts x) A ∷ []) else []) → f.prop ≡ A
+    by true (inl e) = ap Fact.prop e
+    by true (inr k) = absurd k
+    by false k = absurd k
 
 -- what is declared states such a proposition
 declared-tidy : (texts : List (List ℕ)) (Q : Content) → StatesTidy Q → (d : Decl) → IsIn d Q.declarations → (f : Fact) → IsIn f (declared texts d) → IsTidyProposition f.prop

@@ -1,13 +1,12 @@
 -- The facts of a content, declaration by declaration.
-use Rattle.std.proofs.Common.{◌≡◌, ◌≢◌, ◌∙◌, ℕ, ◌+◌, ◌==◌, false, List, [], ◌∷◌, ◌++◌, take, refl, sym, ap, subst, arith, append_assoc, append-nil, add-one, Option, Some, None}
+use Rattle.std.proofs.Common.{◌≡◌, ◌∙◌, ℕ, ◌+◌, true, List, [], ◌∷◌, ◌++◌, take, refl, sym, ap, subst, append_assoc, append-nil, add-one, Option, Some, None}
 use Rattle.std.specs.Prelude.{◌↔◌, slice_get, option_map, if◌then◌else◌, Result, Ok, Err, OnOk}
 use Rattle.std.specs.List.{flat_map}
-use Rattle.std.proofs.lemmas.Bool.Decides.{nat_tests}
 use Rattle.std.proofs.lemmas.Grind.{flat_map-append}
 use Rattle.std.proofs.lemmas.Option.{same_Some}
 use Rattle.pure_text.specs.Lists.{IsIn}
 use Rattle.pure_definitions.specs.Declarations.Decl.{Decl, ClassDecl, ConDecl, ArityDecl, ConstDecl, AxiomDecl, PromiseDecl}
-use Rattle.pure_definitions.specs.Names.{Label, protect_name}
+use Rattle.pure_definitions.specs.Names.{Label}
 use Rattle.pure_definitions.specs.Terms.Term.{Term}
 use Rattle.pure_logic.specs.Content.{Content}
 use Rattle.pure_print.specs.NameText.{text_of_name}
@@ -16,18 +15,16 @@ use Rattle.pure_theory_tables.specs.View.{outline}
 use Rattle.pure_theory_tables.specs.declared.decl.Decl as outlined
 use Rattle.pure_theory_tables.specs.declared.decl.Decl.TheVariants.{Axiom, Promise}
 use Rattle.pure_theory_tables.proofs.GetLaws.{get_in, take_next, all_taken}
+use Rattle.pure_theory_run.specs.Named.{is_written}
 use Rattle.pure_find.specs.declared.finding.Finding.{Finding}
 use Rattle.pure_find.specs.Facts.{Fact, fact, built, declared, facts_of, written}
 use Rattle.pure_find.specs.Findings.{IsFinding, GoesOn, IsOutlineIn, IsLongFound}
 
 -- ---- names
 
-other-name : (name : ℕ) → name ≢ protect_name → (name == protect_name) ≡ false
-other-name name other = grind (arith, nat_tests)
-
--- a fact whose name may be written
-pub written-fact : (texts : List (List ℕ)) (name : ℕ) (A : Term) → name ≢ protect_name → written texts name A ≡ fact (text_of_name texts name) A ∷ []
-written-fact texts name A other = ap (λ b. if b then [] else (fact (text_of_name texts name) A ∷ [])) (other-name name other)
+-- a fact that is found by its full name
+pub written-fact : (texts : List (List ℕ)) (name : ℕ) (A : Term) → is_written texts name ≡ true → written texts name A ≡ fact (text_of_name texts name) A ∷ []
+written-fact texts name A so = ap (λ b. if b then (fact (text_of_name texts name) A ∷ []) else []) so
 
 -- ---- declarations and their outlines
 
@@ -76,16 +73,16 @@ promise-goes_on texts Q long name label old new h (PromiseDecl x l A) there e fs
     subst (λ n. GoesOn long fs (fs ++ written texts n A) old new) (sym same) (h (record { label = Some l; prop = A }) (subst (λ n. IsIn (PromiseDecl n l A) Q.declarations) same there) fs)
 
 -- the same of answers
-pub stated-goes_on : {T E : Type 0} (texts : List (List ℕ)) (Q : Content) (long : Option Term) (name : ℕ) → name ≢ protect_name → (st : Stated) → ((t : Stated) → IsIn (fact_decl name t) Q.declarations ↔ (t ≡ st))
+pub stated-goes_on : {T E : Type 0} (texts : List (List ℕ)) (Q : Content) (long : Option Term) (name : ℕ) → is_written texts name ≡ true → (st : Stated) → ((t : Stated) → IsIn (fact_decl name t) Q.declarations ↔ (t ≡ st))
     → (text : List ℕ) → text ≡ text_of_name texts name → (A : Term) → A ≡ st.prop → (old new : Finding) (r : Result T E) → OnOk r ((fs : List Fact) → GoesOn long fs (fs ++ fact text A ∷ []) old new) → OnOk r (GoesOnStated texts Q long name old new)
-stated-goes_on texts Q long name other st only text is A prop_is old new (Ok x) h = by
+stated-goes_on texts Q long name so st only text is A prop_is old new (Ok x) h = by
   where
     by : GoesOnStated texts Q long name old new
     by s there fs =
         let same : s ≡ st = (only s).0 there in
         let stated : A ≡ s.prop = prop_is ∙ ap Stated.prop (sym same) in
-        subst (λ gs. GoesOn long fs (fs ++ gs) old new) ((λ i. fact (is i) (stated i) ∷ []) ∙ sym (written-fact texts name s.prop other)) (h fs)
-stated-goes_on texts Q long name other st only text is A prop_is old new (Err fault) h = tt
+        subst (λ gs. GoesOn long fs (fs ++ gs) old new) ((λ i. fact (is i) (stated i) ∷ []) ∙ sym (written-fact texts name s.prop so)) (h fs)
+stated-goes_on texts Q long name so st only text is A prop_is old new (Err fault) h = tt
 
 pub axiom-declared : {T E : Type 0} (texts : List (List ℕ)) (Q : Content) (long : Option Term) (name : ℕ) (decl : outlined.Decl) → decl ≡ Axiom name → (old new : Finding) (r : Result T E)
     → OnOk r (GoesOnStated texts Q long name old new) → OnOk r (GoesOnDeclared texts Q long decl old new)

@@ -1,12 +1,12 @@
 //! The facts of a theory, compared with a statement one after the other.
-ghost use Rattle.std.specs.Prelude.{◌≡◌, ◌≢◌, ◌+◌, ◌++◌, ◌∷◌, [], List, IfOk, IfSome, OnOk, Some};
+ghost use Rattle.std.specs.Prelude.{◌≡◌, ◌+◌, ◌++◌, ◌∷◌, [], List, IfOk, IfSome, OnOk, Some, true};
 ghost use Rattle.pure_text.specs.Lists.{IsIn};
 ghost use Rattle.pure_definitions.specs.Declarations.Decl as decls;
-ghost use Rattle.pure_definitions.specs.Names.{protect_name};
 ghost use Rattle.pure_definitions.specs.Terms.Term as tree;
 ghost use Rattle.pure_theorem.specs.Built.{built_proposition};
 ghost use Rattle.pure_theory_tables.specs.Facts.{Stated, fact_decl};
 ghost use Rattle.pure_theory_tables.specs.View.{outline};
+ghost use Rattle.pure_theory_run.specs.Named as named;
 ghost use Rattle.pure_find.specs.Facts as spec;
 ghost use Rattle.pure_find.specs.Findings.{IsTidyProposition, IsLongProposition, IsLongFound, IsFinding, GoesOn, StatesTidy, IsOutlineIn};
 
@@ -14,14 +14,11 @@ use crate::finding::Finding;
 use crate::long::standing_of;
 use pure_term::{Name, Term};
 use pure_theorem::{Built, built_term};
-use pure_theory_run::text_of;
 use pure_theory_run::theory::Theory;
+use pure_theory_run::{is_written, text_of};
 use pure_theory_tables::Decl;
 use pure_typ::NamesByBase;
 use std::alloc::{AllocError, Global};
-
-/// The number of the mark of a goal, which can't be written.
-const PROTECT: u32 = 5;
 
 /// Compares a fact with the statement that has this long form.
 fn add_fact(
@@ -69,7 +66,7 @@ fn built_found(alloc: Global, long: &Option<Term>) -> Result<Finding, AllocError
     Ok(finding)
 }
 
-/// Compares the axiom or the promise of this name, which may be written.
+/// Compares the axiom or the promise of this name, by which it is found.
 fn add_stated(
     alloc: Global,
     names: &NamesByBase,
@@ -81,7 +78,7 @@ fn add_stated(
     requires long { IfSome long.now IsLongProposition }
     requires tidy { StatesTidy theory.now }
     requires declared { (s : Stated) × IsIn (fact_decl name s) theory.now.declarations }
-    requires written { name ≢ protect_name }
+    requires written { named.is_written names.now name ≡ true }
     ensures { OnOk result ((s : Stated) → IsIn (fact_decl name s) theory.now.declarations → (fs : List spec.Fact) → GoesOn long.now fs (fs ++ spec.written names.now name s.prop) finding.old finding.new) }
 {
     match theory.fact(name) {
@@ -90,7 +87,7 @@ fn add_stated(
     }
 }
 
-/// The same, if it may be written.
+/// The same, if it is found by this name.
 fn add_named(
     alloc: Global,
     names: &NamesByBase,
@@ -104,10 +101,10 @@ fn add_named(
     requires declared { (s : Stated) × IsIn (fact_decl name s) theory.now.declarations }
     ensures { OnOk result ((s : Stated) → IsIn (fact_decl name s) theory.now.declarations → (fs : List spec.Fact) → GoesOn long.now fs (fs ++ spec.written names.now name s.prop) finding.old finding.new) }
 {
-    if name.0 == PROTECT {
-        return Ok(());
+    if is_written(names, name) {
+        return Ok(add_stated(alloc, names, theory, long, name, finding)?);
     }
-    add_stated(alloc, names, theory, long, name, finding)
+    Ok(())
 }
 
 /// Compares the fact that is declared, if one is.

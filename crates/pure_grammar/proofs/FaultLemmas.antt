@@ -9,7 +9,7 @@ use Rattle.pure_grammar.specs.Theories.TheoryText.{Span, Command, TypeDecl, Theo
 use Rattle.pure_grammar.specs.Theories.Lexeme.{Lexeme, Reserved, Signed, Plain, Variable, Numeral, Quoted, Ends, same, kind_of}
 use Rattle.pure_grammar.specs.Theories.PhraseText.{assumption_word}
 use Rattle.pure_grammar.specs.Theories.Outer.{IsTheory, BeginsTheory, MayFollow, GoesWrong}
-use Rattle.pure_grammar.specs.Theories.Reader.{Header, State, AtStart, AtTheoryName, AfterTheoryName, AtImport, AfterImport, InBody, AtLast, Outcome, Through, Stuck, AtStep, AtNumber, AtMethod, AtBasic, AfterBasic, AtFact, AtUnfolded, AfterUnfolded, Place, AtCommand, AfterEnd, AtClassName, AfterClassName, AtAbove, AfterAbove, AtParams, AtParam, AfterParam, AtTypeName, AtConstructor, AfterConstructor, AtDomains, AtSort, AfterSort, AtFirstClass, AtNextClass, AfterClass, AtArityClass, AtItem, AfterItem, AtItemType, AfterItemType, AtWhere, AtAxiom, AfterAxiom, AtAxiomText, AfterAxiomText, AtDefinition, AfterDefinition, AtDefinitionType, AfterDefinitionType, AtDefinitionText, AtLemma, AfterLemma, AtLemmaText, InProof, goes_on, next, run, expected}
+use Rattle.pure_grammar.specs.Theories.Reader.{Header, State, AtStart, AtVersion, AfterVersion, AtTheoryName, AfterTheoryName, AtImport, AfterImport, InBody, AtLast, Outcome, Through, Stuck, AtStep, AtNumber, AtMethod, AtBasic, AfterBasic, AtFact, AtUnfolded, AfterUnfolded, Place, AtCommand, AfterEnd, AtClassName, AfterClassName, AtAbove, AfterAbove, AtParams, AtParam, AfterParam, AtTypeName, AtConstructor, AfterConstructor, AtDomains, AtSort, AfterSort, AtFirstClass, AtNextClass, AfterClass, AtArityClass, AtItem, AfterItem, AtItemType, AfterItemType, AtWhere, AtAxiom, AfterAxiom, AtAxiomText, AfterAxiomText, AtDefinition, AfterDefinition, AtDefinitionType, AfterDefinitionType, AtDefinitionText, OfLemma, OfHave, AtLemma, AfterLemma, AtLemmaText, AtProof, AtHave, AfterHave, AtHaveText, InProof, goes_on, next, run, expected}
 use Rattle.pure_grammar.proofs.OuterLemmas.{run-IsTheory}
 use Rattle.pure_grammar.proofs.ReadLemmas.{Gets, none, got-file}
 
@@ -96,21 +96,39 @@ goes-body h cs (AtDefinitionText x y) = record { one = Quoted nowhere; rest = th
 goes-body h cs AtLemma = record { one = Plain (codes "a") nowhere; rest = Signed sign.Colon ∷ Quoted nowhere ∷ Reserved keyword.Done ∷ the_end; theory = _; is_kind = refl; gets = refl }
 goes-body h cs (AfterLemma x) = record { one = Signed sign.Colon; rest = Quoted nowhere ∷ Reserved keyword.Done ∷ the_end; theory = _; is_kind = refl; gets = refl }
 goes-body h cs (AtLemmaText x) = record { one = Quoted nowhere; rest = Reserved keyword.Done ∷ the_end; theory = _; is_kind = refl; gets = refl }
-goes-body h cs (InProof x p script AtStep) = record { one = Reserved keyword.Done; rest = the_end; theory = _; is_kind = refl; gets = refl }
-goes-body h cs (InProof x p script AtNumber) = record { one = Numeral 1; rest = Reserved keyword.Done ∷ the_end; theory = _; is_kind = refl; gets = refl }
-goes-body h cs (InProof x p script (AtMethod true)) = record { one = Plain assumption_word nowhere; rest = the_end; theory = _; is_kind = refl; gets = refl }
-goes-body h cs (InProof x p script (AtBasic true)) = record { one = Plain assumption_word nowhere; rest = Signed sign.CloseParenthesis ∷ the_end; theory = _; is_kind = refl; gets = refl }
-goes-body h cs (InProof x p script (AfterBasic true)) = record { one = Signed sign.CloseParenthesis; rest = the_end; theory = _; is_kind = refl; gets = refl }
-goes-body h cs (InProof x p script (AtFact true method)) = record { one = Plain (codes "a") nowhere; rest = Signed sign.CloseParenthesis ∷ the_end; theory = _; is_kind = refl; gets = refl }
-goes-body h cs (InProof x p script (AtUnfolded true)) = record { one = Plain (codes "a") nowhere; rest = Signed sign.CloseParenthesis ∷ the_end; theory = _; is_kind = refl; gets = refl }
-goes-body h cs (InProof x p script (AfterUnfolded true facts)) = record { one = Signed sign.CloseParenthesis; rest = the_end; theory = _; is_kind = refl; gets = refl }
-goes-body h cs (InProof x p script (AtMethod false)) = record { one = Plain assumption_word nowhere; rest = Reserved keyword.Done ∷ the_end; theory = _; is_kind = refl; gets = refl }
-goes-body h cs (InProof x p script (AtBasic false)) = record { one = Plain assumption_word nowhere; rest = Signed sign.CloseParenthesis ∷ Reserved keyword.Done ∷ the_end; theory = _; is_kind = refl; gets = refl }
-goes-body h cs (InProof x p script (AfterBasic false)) = record { one = Signed sign.CloseParenthesis; rest = Reserved keyword.Done ∷ the_end; theory = _; is_kind = refl; gets = refl }
-goes-body h cs (InProof x p script (AtFact false method)) = record { one = Plain (codes "a") nowhere; rest = Signed sign.CloseParenthesis ∷ Reserved keyword.Done ∷ the_end; theory = _; is_kind = refl; gets = refl }
-goes-body h cs (InProof x p script (AtUnfolded false)) = record { one = Plain (codes "a") nowhere; rest = Signed sign.CloseParenthesis ∷ Reserved keyword.Done ∷ the_end; theory = _; is_kind = refl; gets = refl }
-goes-body h cs (InProof x p script (AfterUnfolded false facts)) = record { one = Signed sign.CloseParenthesis; rest = Reserved keyword.Done ∷ the_end; theory = _; is_kind = refl; gets = refl }
-goes-body h cs (AtParam xs) = record { one = Variable (fresh xs) nowhere; rest = Signed sign.CloseParenthesis ∷ Plain (codes "a") nowhere ∷ the_end; theory = record { version = 1; name = h.name; imports = h.imports; commands = cs ++ TypeDecl (codes "a") (length (xs ++ fresh xs ∷ [])) ∷ [] }; is_kind = refl; gets = rw (list_any-fresh xs) refl }
+goes-body h cs (AtProof m) = record { one = Reserved keyword.Done; rest = the_end; theory = _; is_kind = refl; gets = refl }
+goes-body h cs (AtHave m) = record { one = Plain (codes "a") nowhere; rest = Signed sign.Colon ∷ Quoted nowhere ∷ Reserved keyword.Done ∷ Reserved keyword.Done ∷ the_end; theory = _; is_kind = refl; gets = refl }
+goes-body h cs (AfterHave m x) = record { one = Signed sign.Colon; rest = Quoted nowhere ∷ Reserved keyword.Done ∷ Reserved keyword.Done ∷ the_end; theory = _; is_kind = refl; gets = refl }
+goes-body h cs (AtHaveText m x) = record { one = Quoted nowhere; rest = Reserved keyword.Done ∷ Reserved keyword.Done ∷ the_end; theory = _; is_kind = refl; gets = refl }
+goes-body h cs (InProof (OfLemma m) script AtStep) = record { one = Reserved keyword.Done; rest = the_end; theory = _; is_kind = refl; gets = refl }
+goes-body h cs (InProof (OfHave m x p) script AtStep) = record { one = Reserved keyword.Done; rest = Reserved keyword.Done ∷ the_end; theory = _; is_kind = refl; gets = refl }
+goes-body h cs (InProof (OfLemma m) script AtNumber) = record { one = Numeral 1; rest = Reserved keyword.Done ∷ the_end; theory = _; is_kind = refl; gets = refl }
+goes-body h cs (InProof (OfHave m x p) script AtNumber) = record { one = Numeral 1; rest = Reserved keyword.Done ∷ Reserved keyword.Done ∷ the_end; theory = _; is_kind = refl; gets = refl }
+goes-body h cs (InProof (OfLemma m) script (AtMethod true)) = record { one = Plain assumption_word nowhere; rest = the_end; theory = _; is_kind = refl; gets = refl }
+goes-body h cs (InProof (OfHave m x p) script (AtMethod true)) = record { one = Plain assumption_word nowhere; rest = Reserved keyword.Done ∷ the_end; theory = _; is_kind = refl; gets = refl }
+goes-body h cs (InProof (OfLemma m) script (AtBasic true)) = record { one = Plain assumption_word nowhere; rest = Signed sign.CloseParenthesis ∷ the_end; theory = _; is_kind = refl; gets = refl }
+goes-body h cs (InProof (OfHave m x p) script (AtBasic true)) = record { one = Plain assumption_word nowhere; rest = Signed sign.CloseParenthesis ∷ Reserved keyword.Done ∷ the_end; theory = _; is_kind = refl; gets = refl }
+goes-body h cs (InProof (OfLemma m) script (AfterBasic true)) = record { one = Signed sign.CloseParenthesis; rest = the_end; theory = _; is_kind = refl; gets = refl }
+goes-body h cs (InProof (OfHave m x p) script (AfterBasic true)) = record { one = Signed sign.CloseParenthesis; rest = Reserved keyword.Done ∷ the_end; theory = _; is_kind = refl; gets = refl }
+goes-body h cs (InProof (OfLemma m) script (AtFact true method)) = record { one = Plain (codes "a") nowhere; rest = Signed sign.CloseParenthesis ∷ the_end; theory = _; is_kind = refl; gets = refl }
+goes-body h cs (InProof (OfHave m x p) script (AtFact true method)) = record { one = Plain (codes "a") nowhere; rest = Signed sign.CloseParenthesis ∷ Reserved keyword.Done ∷ the_end; theory = _; is_kind = refl; gets = refl }
+goes-body h cs (InProof (OfLemma m) script (AtUnfolded true)) = record { one = Plain (codes "a") nowhere; rest = Signed sign.CloseParenthesis ∷ the_end; theory = _; is_kind = refl; gets = refl }
+goes-body h cs (InProof (OfHave m x p) script (AtUnfolded true)) = record { one = Plain (codes "a") nowhere; rest = Signed sign.CloseParenthesis ∷ Reserved keyword.Done ∷ the_end; theory = _; is_kind = refl; gets = refl }
+goes-body h cs (InProof (OfLemma m) script (AfterUnfolded true facts)) = record { one = Signed sign.CloseParenthesis; rest = the_end; theory = _; is_kind = refl; gets = refl }
+goes-body h cs (InProof (OfHave m x p) script (AfterUnfolded true facts)) = record { one = Signed sign.CloseParenthesis; rest = Reserved keyword.Done ∷ the_end; theory = _; is_kind = refl; gets = refl }
+goes-body h cs (InProof (OfLemma m) script (AtMethod false)) = record { one = Plain assumption_word nowhere; rest = Reserved keyword.Done ∷ the_end; theory = _; is_kind = refl; gets = refl }
+goes-body h cs (InProof (OfHave m x p) script (AtMethod false)) = record { one = Plain assumption_word nowhere; rest = Reserved keyword.Done ∷ Reserved keyword.Done ∷ the_end; theory = _; is_kind = refl; gets = refl }
+goes-body h cs (InProof (OfLemma m) script (AtBasic false)) = record { one = Plain assumption_word nowhere; rest = Signed sign.CloseParenthesis ∷ Reserved keyword.Done ∷ the_end; theory = _; is_kind = refl; gets = refl }
+goes-body h cs (InProof (OfHave m x p) script (AtBasic false)) = record { one = Plain assumption_word nowhere; rest = Signed sign.CloseParenthesis ∷ Reserved keyword.Done ∷ Reserved keyword.Done ∷ the_end; theory = _; is_kind = refl; gets = refl }
+goes-body h cs (InProof (OfLemma m) script (AfterBasic false)) = record { one = Signed sign.CloseParenthesis; rest = Reserved keyword.Done ∷ the_end; theory = _; is_kind = refl; gets = refl }
+goes-body h cs (InProof (OfHave m x p) script (AfterBasic false)) = record { one = Signed sign.CloseParenthesis; rest = Reserved keyword.Done ∷ Reserved keyword.Done ∷ the_end; theory = _; is_kind = refl; gets = refl }
+goes-body h cs (InProof (OfLemma m) script (AtFact false method)) = record { one = Plain (codes "a") nowhere; rest = Signed sign.CloseParenthesis ∷ Reserved keyword.Done ∷ the_end; theory = _; is_kind = refl; gets = refl }
+goes-body h cs (InProof (OfHave m x p) script (AtFact false method)) = record { one = Plain (codes "a") nowhere; rest = Signed sign.CloseParenthesis ∷ Reserved keyword.Done ∷ Reserved keyword.Done ∷ the_end; theory = _; is_kind = refl; gets = refl }
+goes-body h cs (InProof (OfLemma m) script (AtUnfolded false)) = record { one = Plain (codes "a") nowhere; rest = Signed sign.CloseParenthesis ∷ Reserved keyword.Done ∷ the_end; theory = _; is_kind = refl; gets = refl }
+goes-body h cs (InProof (OfHave m x p) script (AtUnfolded false)) = record { one = Plain (codes "a") nowhere; rest = Signed sign.CloseParenthesis ∷ Reserved keyword.Done ∷ Reserved keyword.Done ∷ the_end; theory = _; is_kind = refl; gets = refl }
+goes-body h cs (InProof (OfLemma m) script (AfterUnfolded false facts)) = record { one = Signed sign.CloseParenthesis; rest = Reserved keyword.Done ∷ the_end; theory = _; is_kind = refl; gets = refl }
+goes-body h cs (InProof (OfHave m x p) script (AfterUnfolded false facts)) = record { one = Signed sign.CloseParenthesis; rest = Reserved keyword.Done ∷ Reserved keyword.Done ∷ the_end; theory = _; is_kind = refl; gets = refl }
+goes-body h cs (AtParam xs) = record { one = Variable (fresh xs) nowhere; rest = Signed sign.CloseParenthesis ∷ Plain (codes "a") nowhere ∷ the_end; theory = record { version = h.version; name = h.name; imports = h.imports; commands = cs ++ TypeDecl (codes "a") (length (xs ++ fresh xs ∷ [])) ∷ [] }; is_kind = refl; gets = rw (list_any-fresh xs) refl }
 
 -- the source has ended
 abbrev pub is_last : State → Bool
@@ -119,9 +137,11 @@ is_last _ = false
 
 goes : (s : State) → is_last s ≡ false → GoesOn s
 goes AtStart e = record { one = Reserved keyword.Theory; rest = Plain (codes "a") nowhere ∷ Reserved keyword.Begin ∷ the_end; theory = _; is_kind = refl; gets = refl }
-goes AtTheoryName e = record { one = Plain (codes "a") nowhere; rest = Reserved keyword.Begin ∷ the_end; theory = _; is_kind = refl; gets = refl }
-goes (AfterTheoryName x) e = record { one = Reserved keyword.Begin; rest = the_end; theory = _; is_kind = refl; gets = refl }
-goes (AtImport x) e = record { one = Plain (codes "a") nowhere; rest = Reserved keyword.Begin ∷ the_end; theory = _; is_kind = refl; gets = refl }
+goes AtVersion e = record { one = Numeral 1; rest = Reserved keyword.Theory ∷ Plain (codes "a") nowhere ∷ Reserved keyword.Begin ∷ the_end; theory = _; is_kind = refl; gets = refl }
+goes (AfterVersion v) e = record { one = Reserved keyword.Theory; rest = Plain (codes "a") nowhere ∷ Reserved keyword.Begin ∷ the_end; theory = _; is_kind = refl; gets = refl }
+goes (AtTheoryName v) e = record { one = Plain (codes "a") nowhere; rest = Reserved keyword.Begin ∷ the_end; theory = _; is_kind = refl; gets = refl }
+goes (AfterTheoryName v x) e = record { one = Reserved keyword.Begin; rest = the_end; theory = _; is_kind = refl; gets = refl }
+goes (AtImport v x) e = record { one = Plain (codes "a") nowhere; rest = Reserved keyword.Begin ∷ the_end; theory = _; is_kind = refl; gets = refl }
 goes (AfterImport h) e = record { one = Reserved keyword.Begin; rest = the_end; theory = _; is_kind = refl; gets = refl }
 goes (InBody h cs p) e = goes-body h cs p
 goes (AtLast t) e = absurd (true≢false e)
@@ -172,7 +192,7 @@ stops-at first [] s found rest g = absurd (true≢false (sym (ap is_stuck g)))
 stops-at first (l ∷ ls) s found rest g = stops-by first l ls s found rest (next first l) refl (λ u. stops-at u ls s found rest) g
 
 pub Gets-IsTheory : (ls : List Lexeme) (t : TheoryText) → Gets AtStart ls t → IsTheory ls t
-Gets-IsTheory ls t g = let f = got-file t ls g in record { file = f.file; spelled = sym f.is; means = f.theory; distinct = f.distinct }
+Gets-IsTheory ls t g = let f = got-file t ls g in record { file = f.file; spelled = sym f.is; means = f.theory; allowed = f.allowed }
 
 may-follow : (before : List Lexeme) (s : State) → ((more : List Lexeme) → run AtStart (before ++ more) ≡ run s more) → GoesOn s → MayFollow before (expected s)
 may-follow before s reaches on =

@@ -19,3 +19,4 @@ pub mod InnerEndLemmas
 pub mod Beside
 pub mod RawTextLemmas
 pub mod SpanLemmas
+pub mod VersionLemmas

@@ -12,7 +12,7 @@ theory_of t (Through (AtLast u)) = u
 theory_of t _ = t
 
 pub run-IsTheory : (ls : List Lexeme) (t : TheoryText) → IsTheory ls t → run AtStart ls ≡ Through (AtLast t)
-run-IsTheory ls t is = ap (run AtStart) (sym is.spelled) ∙ run-file_text is.file is.distinct ∙ ap (λ z. Through (AtLast z)) is.means
+run-IsTheory ls t is = ap (run AtStart) (sym is.spelled) ∙ run-file_text is.file is.allowed ∙ ap (λ z. Through (AtLast z)) is.means
 
 AtLast-same : (t u : TheoryText) → Through (AtLast t) ≡ Through (AtLast u) → t ≡ u
 unfolding theory_of

@@ -1,19 +1,20 @@
 -- What the reader has read is the text of a phrase.
-use Rattle.std.proofs.Common.{◌≡◌, ℕ, zero, suc, ◌<◌, ◌≤◌, List, [], ◌∷◌, ◌++◌, length, refl, sym, ◌∙◌, ap, subst, append_assoc, ◌⊎◌, inl, inr, arith, true≢false}
+use Rattle.std.proofs.Common.{◌≡◌, ℕ, zero, suc, ◌==◌, ◌<◌, ◌≤◌, List, [], ◌∷◌, ◌++◌, length, refl, sym, ◌∙◌, ap, subst, append_assoc, ◌⊎◌, inl, inr, arith, true≢false}
 use Rattle.std.proofs.lemmas.List.{append-nil}
+use Rattle.std.proofs.lemmas.Bool.{eqb-false}
 use Rattle.std.specs.Prelude.{Bool, true, false, Option, Some, None, map, if◌then◌else◌}
 use Rattle.std.specs.List.{list_any, AllByRecursion, fold}
 use Rattle.pure_grammar.specs.declared.lexeme.Keyword.TheVariants as keyword
 use Rattle.pure_grammar.specs.declared.lexeme.Sign.TheVariants as sign
-use Rattle.pure_grammar.specs.Theories.TheoryText.{Span, Step, Command, TheoryText}
+use Rattle.pure_grammar.specs.Theories.TheoryText.{Span, Step, Have, Command, TheoryText}
 use Rattle.pure_grammar.specs.Theories.TheoryText as tree
 use Rattle.pure_grammar.specs.Theories.Lexeme.{Lexeme, Reserved, Signed, Plain, Dotted, Variable, Numeral, Quoted, Ends, same}
-use Rattle.pure_grammar.specs.Theories.Phrase.{Ident, Name, Simple, Full, TypeVariable, QuotedType, NamedType, VariableType, OneClass, NoClass, Classes, BasicPhrase, ByAssumption, ByRule, ByErule, ByDrule, ByUnfold, Alone, Together, ApplyStep, PreferStep, DeferStep, DoneEnd, ByEnd, ProofPhrase, NoneAbove, Above, NoParam, OneParam, Params, DomainsPhrase, NoDomain, Domains, AxiomPhrase, LemmaWritten, TheoremWritten, CommandPhrase, ClassCommand, TypedeclCommand, AritiesCommand, ConstsCommand, AxiomsCommand, DefinitionCommand, LemmaCommand, NoImport, Imports, FilePhrase}
-use Rattle.pure_grammar.specs.Theories.PhraseText.{each, each_comma, name_text, ident_text, variable_text, type_text, sort_text, basic_text, method_text, step_text, end_text, proof_text, domains_text, item_text, axiom_text, and_axiom_text, command_text, file_text, assumption_word, rule_word, erule_word, drule_word, unfold_word}
-use Rattle.pure_grammar.specs.Theories.PhraseTree.{all_of, name_of, type_span, sort_of, basic_step, method_steps, step_steps, end_steps, proof_steps, domains_of, item_command, axiom_command, phrase_commands, commands_of, with_text, mentions, imports_of, file_tree, IsCommandPhrase}
+use Rattle.pure_grammar.specs.Theories.Phrase.{Ident, Name, Simple, Full, TypeVariable, QuotedType, NamedType, VariableType, OneClass, NoClass, Classes, BasicPhrase, ByAssumption, ByRule, ByErule, ByDrule, ByUnfold, Alone, Together, ApplyStep, PreferStep, DeferStep, DoneEnd, ByEnd, ProofPhrase, NoneAbove, Above, NoParam, OneParam, Params, DomainsPhrase, NoDomain, Domains, AxiomPhrase, LemmaWritten, TheoremWritten, HavePhrase, CommandPhrase, ClassCommand, TypedeclCommand, AritiesCommand, ConstsCommand, AxiomsCommand, DefinitionCommand, LemmaCommand, NoImport, Imports, VersionPhrase, NoVersion, WrittenVersion, FilePhrase}
+use Rattle.pure_grammar.specs.Theories.PhraseText.{each, each_comma, name_text, ident_text, variable_text, type_text, sort_text, basic_text, method_text, step_text, end_text, proof_text, domains_text, item_text, axiom_text, and_axiom_text, have_text, command_text, version_text, file_text, assumption_word, rule_word, erule_word, drule_word, unfold_word}
+use Rattle.pure_grammar.specs.Theories.PhraseTree.{all_of, name_of, type_span, sort_of, basic_step, method_steps, step_steps, end_steps, proof_steps, domains_of, item_command, axiom_command, have_of, phrase_commands, commands_of, with_text, mentions, imports_of, version_of, file_tree, IsCommandPhrase}
 use Rattle.pure_grammar.proofs.Distinct.{same-is, AreNew, new-distinct}
-use Rattle.pure_grammar.proofs.ReaderLemmas.{after}
-use Rattle.pure_grammar.specs.Theories.Reader.{Header, State, InBody, AtStart, AfterImport, AtLast, Outcome, Through, Stuck, FactMethod, OfRule, OfErule, OfDrule, fact_step, AtStep, AtMethod, AtBasic, AfterBasic, AtFact, AtUnfolded, AfterUnfolded, Place, AtCommand, AtClassName, AfterAbove, AtParams, AfterParam, AtConstructor, AtDomains, AtSort, AfterSort, AfterClass, AtArityClass, AtItem, AtItemType, AfterItemType, AtWhere, AtAxiom, AfterAxiomText, AtDefinition, AtDefinitionType, AfterDefinitionType, AtLemma, InProof, Moves, Refuses, command_begun, leave, leave_with, goes_on, body_state, run}
+use Rattle.pure_grammar.proofs.ReaderLemmas.{ended, after, open_lemma}
+use Rattle.pure_grammar.specs.Theories.Reader.{Header, State, InBody, AtStart, AtTheoryName, AfterImport, AtLast, Outcome, Through, Stuck, FactMethod, OfRule, OfErule, OfDrule, fact_step, AtStep, AtMethod, AtBasic, AfterBasic, AtFact, AtUnfolded, AfterUnfolded, Place, AtCommand, AtClassName, AfterAbove, AtParams, AfterParam, AtConstructor, AtDomains, AtSort, AfterSort, AfterClass, AtArityClass, AtItem, AtItemType, AfterItemType, AtWhere, AtAxiom, AfterAxiomText, AtDefinition, AtDefinitionType, AfterDefinitionType, OpenLemma, with_have, Goal, OfLemma, OfHave, AtLemma, AtProof, AtHave, InProof, Moves, Refuses, command_begun, leave, leave_with, goes_on, body_state, run}
 
 -- the reader reads all, and the theory is this
 abbrev pub Gets : State → List Lexeme → TheoryText → Type 0
@@ -72,7 +73,7 @@ length-name_text (Full text at) r = refl
 -- a command was read, and the reader goes on behind it
 record GotCommand (h : Header) (cs : List Command) (r : List Lexeme) (t : TheoryText) : Type 0 where
   command : CommandPhrase
-  distinct : IsCommandPhrase command
+  allowed : IsCommandPhrase h.version command
   behind : List Lexeme
   is : r ≡ command_text command behind
   gets : Gets (InBody h (cs ++ phrase_commands command) AtCommand) behind t
@@ -111,7 +112,7 @@ got-above h cs x at t n r g =
     let m = got-each name_text (λ z y. z ++ name_of y ∷ []) (λ z. InBody h cs (AfterAbove x z)) (OutAbove h cs x t) t (one-above h cs x t) (suc (length r)) (name_of n ∷ []) r (omega arith) g in
     record {
       command = ClassCommand (record { text = x; at = at }) (Above n m.items);
-      distinct = tt;
+      allowed = tt;
       behind = m.behind;
       is = ap (λ z. Reserved keyword.Class ∷ Plain x at ∷ Signed sign.Less ∷ name_text n z) m.is;
       gets = subst (λ z. Gets (InBody h (cs ++ tree.Class x z ∷ []) AtCommand) m.behind t) (fold-map name_of (name_of n ∷ []) m.items) m.ends;
@@ -128,7 +129,7 @@ got-class h cs t (Plain x at ∷ Signed sign.Less ∷ l ∷ r) g = absurd (none 
 got-class h cs t (Plain x at ∷ Reserved w ∷ r) g =
     record {
       command = ClassCommand (record { text = x; at = at }) NoneAbove;
-      distinct = tt;
+      allowed = tt;
       behind = Reserved w ∷ r;
       is = refl;
       gets = leave-gets h cs (tree.Class x []) (command_begun (Reserved w)) _ _ (Reserved w) r t g;
@@ -229,7 +230,7 @@ got-arity_of h cs k t r g =
     let o = got-domains h cs (name_of k) t r g in
     record {
       command = AritiesCommand k o.item.domains o.item.class;
-      distinct = tt;
+      allowed = tt;
       behind = o.behind;
       is = ap (λ z. Reserved keyword.Arities ∷ name_text k (Signed sign.DoubleColon ∷ z)) o.is;
       gets = o.gets;
@@ -294,17 +295,17 @@ got-params h cs t known (l ∷ r) g = absurd (none g refl)
 
 got-typedecl : (h : Header) (cs : List Command) (t : TheoryText) (r : List Lexeme) → Gets (InBody h cs AtParams) r t → GotCommand h cs (Reserved keyword.Typedecl ∷ r) t
 got-typedecl h cs t [] g = absurd (none g refl)
-got-typedecl h cs t (Plain x at ∷ r) g = record { command = TypedeclCommand NoParam (record { text = x; at = at }); distinct = tt; behind = r; is = refl; gets = g; less = omega arith }
+got-typedecl h cs t (Plain x at ∷ r) g = record { command = TypedeclCommand NoParam (record { text = x; at = at }); allowed = tt; behind = r; is = refl; gets = g; less = omega arith }
 got-typedecl h cs t (Variable y at ∷ []) g = absurd (none g refl)
 got-typedecl h cs t (Variable y at ∷ Plain x at' ∷ r) g =
-    record { command = TypedeclCommand (OneParam (record { text = y; at = at })) (record { text = x; at = at' }); distinct = (λ m. m, tt); behind = r; is = refl; gets = g; less = omega arith }
+    record { command = TypedeclCommand (OneParam (record { text = y; at = at })) (record { text = x; at = at' }); allowed = (λ m. m, tt); behind = r; is = refl; gets = g; less = omega arith }
 got-typedecl h cs t (Variable y at ∷ l ∷ r) g = absurd (none g refl)
 got-typedecl h cs t (Signed sign.OpenParenthesis ∷ []) g = absurd (none g refl)
 got-typedecl h cs t (Signed sign.OpenParenthesis ∷ Variable y at ∷ r) g =
     let m = got-params h cs t (y ∷ []) r g in
     record {
       command = TypedeclCommand (Params (record { text = y; at = at }) m.more) m.name;
-      distinct = new-distinct (y ∷ map (λ (y : TypeVariable). y.text) m.more) (refl, m.new);
+      allowed = new-distinct (y ∷ map (λ (y : TypeVariable). y.text) m.more) (refl, m.new);
       behind = m.behind;
       is = ap (λ z. Reserved keyword.Typedecl ∷ Signed sign.OpenParenthesis ∷ Variable y at ∷ z) m.is;
       gets = m.gets;
@@ -346,7 +347,7 @@ got-consts h cs t (Plain x at ∷ Signed sign.DoubleColon ∷ r) g =
     let m = got-each item_text (λ z y. z ++ item_command y ∷ []) (λ z. InBody h z AfterItemType) (λ z r. Gets (InBody h z AtCommand) r t) t (one-item h t) (suc (length o.behind)) (cs ++ item_command o.item ∷ []) o.behind (omega arith) o.gets in
     record {
       command = ConstsCommand o.item m.items;
-      distinct = tt;
+      allowed = tt;
       behind = m.behind;
       is = ap (λ z. Reserved keyword.Consts ∷ z) (o.is ∙ ap (item_text o.item) m.is);
       gets = subst (λ z. Gets (InBody h z AtCommand) m.behind t) (fold-map item_command (cs ++ item_command o.item ∷ []) m.items ∙ append_assoc cs (item_command o.item ∷ []) (map item_command m.items)) m.ends;
@@ -382,7 +383,7 @@ got-axioms h cs t (Reserved keyword.Where ∷ r) g =
     let m = got-each and_axiom_text (λ z y. z ++ axiom_command y ∷ []) (λ z. InBody h z AfterAxiomText) (λ z r. Gets (InBody h z AtCommand) r t) t (one-axiom h t) (suc (length o.behind)) (cs ++ axiom_command o.item ∷ []) o.behind (omega arith) o.gets in
     record {
       command = AxiomsCommand o.item m.items;
-      distinct = tt;
+      allowed = tt;
       behind = m.behind;
       is = ap (λ z. Reserved keyword.Axiomatization ∷ Reserved keyword.Where ∷ z) (o.is ∙ ap (axiom_text o.item) m.is);
       gets = subst (λ z. Gets (InBody h z AtCommand) m.behind t) (fold-map axiom_command (cs ++ axiom_command o.item ∷ []) m.items ∙ append_assoc cs (axiom_command o.item ∷ []) (map axiom_command m.items)) m.ends;
@@ -416,7 +417,7 @@ got-definition h cs t (Plain x at ∷ Signed sign.DoubleColon ∷ r) g =
     let p = got-definition_text h cs x (type_span o.item) t o.behind o.gets in
     record {
       command = DefinitionCommand (record { name = record { text = x; at = at }; typ = o.item }) p.item;
-      distinct = tt;
+      allowed = tt;
       behind = p.behind;
       is = ap (λ z. Reserved keyword.Definition ∷ Plain x at ∷ Signed sign.DoubleColon ∷ z) (o.is ∙ ap (type_text o.item) p.is);
       gets = p.gets;
@@ -426,41 +427,42 @@ got-definition h cs t (Plain x at ∷ l ∷ r) g = absurd (none g refl)
 got-definition h cs t (l ∷ r) g = absurd (none g refl)
 
 -- ---- proofs
-got-fact : (h : Header) (cs : List Command) (x : List ℕ) (p : Span) (script : List Step) (last : Bool) (m : FactMethod) (t : TheoryText) (r : List Lexeme) → Gets (InBody h cs (InProof x p script (AtFact last m))) r t
-    → One name_text (λ n. InBody h cs (InProof x p (script ++ fact_step m (name_of n) ∷ []) (AfterBasic last))) r t
-got-fact h cs x p script last m t [] g = absurd (none g refl)
-got-fact h cs x p script last m t (Plain text at ∷ r) g = record { item = Simple text at; behind = r; is = refl; gets = g; less = omega arith }
-got-fact h cs x p script last m t (Dotted text at ∷ r) g = record { item = Full text at; behind = r; is = refl; gets = g; less = omega arith }
-got-fact h cs x p script last m t (l ∷ r) g = absurd (none g refl)
+got-fact : (h : Header) (cs : List Command) (goal : Goal) (script : List Step) (last : Bool) (m : FactMethod) (t : TheoryText) (r : List Lexeme) → Gets (InBody h cs (InProof goal script (AtFact last m))) r t
+    → One name_text (λ n. InBody h cs (InProof goal (script ++ fact_step m (name_of n) ∷ []) (AfterBasic last))) r t
+got-fact h cs goal script last m t [] g = absurd (none g refl)
+got-fact h cs goal script last m t (Plain text at ∷ r) g = record { item = Simple text at; behind = r; is = refl; gets = g; less = omega arith }
+got-fact h cs goal script last m t (Dotted text at ∷ r) g = record { item = Full text at; behind = r; is = refl; gets = g; less = omega arith }
+got-fact h cs goal script last m t (l ∷ r) g = absurd (none g refl)
 
-one-unfolded : (h : Header) (cs : List Command) (x : List ℕ) (p : Span) (script : List Step) (last : Bool) (t : TheoryText) (facts : List (List ℕ)) (r : List Lexeme) → Gets (InBody h cs (InProof x p script (AfterUnfolded last facts))) r t
-    → One name_text (λ n. InBody h cs (InProof x p script (AfterUnfolded last (facts ++ name_of n ∷ [])))) r t ⊎ Gets (InBody h cs (InProof x p (script ++ tree.Unfold facts ∷ []) (AfterBasic last))) r t
-one-unfolded h cs x p script last t facts [] g = absurd (none g refl)
-one-unfolded h cs x p script last t facts (Plain text at ∷ r) g = inl (record { item = Simple text at; behind = r; is = refl; gets = g; less = omega arith })
-one-unfolded h cs x p script last t facts (Dotted text at ∷ r) g = inl (record { item = Full text at; behind = r; is = refl; gets = g; less = omega arith })
-one-unfolded h cs x p script last t facts (Signed sign.Comma ∷ r) g = inr g
-one-unfolded h cs x p script true t facts (Signed sign.CloseParenthesis ∷ r) g = inr g
-one-unfolded h cs x p script false t facts (Signed sign.CloseParenthesis ∷ r) g = inr g
-one-unfolded h cs x p script last t facts (l ∷ r) g = absurd (none g refl)
+one-unfolded : (h : Header) (cs : List Command) (goal : Goal) (script : List Step) (last : Bool) (t : TheoryText) (facts : List (List ℕ)) (r : List Lexeme) → Gets (InBody h cs (InProof goal script (AfterUnfolded last facts))) r t
+    → One name_text (λ n. InBody h cs (InProof goal script (AfterUnfolded last (facts ++ name_of n ∷ [])))) r t ⊎ Gets (InBody h cs (InProof goal (script ++ tree.Unfold facts ∷ []) (AfterBasic last))) r t
+one-unfolded h cs goal script last t facts [] g = absurd (none g refl)
+one-unfolded h cs goal script last t facts (Plain text at ∷ r) g = inl (record { item = Simple text at; behind = r; is = refl; gets = g; less = omega arith })
+one-unfolded h cs goal script last t facts (Dotted text at ∷ r) g = inl (record { item = Full text at; behind = r; is = refl; gets = g; less = omega arith })
+one-unfolded h cs goal script last t facts (Signed sign.Comma ∷ r) g = inr g
+one-unfolded h cs (OfLemma m) script true t facts (Signed sign.CloseParenthesis ∷ r) g = inr g
+one-unfolded h cs (OfHave m x p) script true t facts (Signed sign.CloseParenthesis ∷ r) g = inr g
+one-unfolded h cs goal script false t facts (Signed sign.CloseParenthesis ∷ r) g = inr g
+one-unfolded h cs goal script last t facts (l ∷ r) g = absurd (none g refl)
 
-got-unfold : (h : Header) (cs : List Command) (x : List ℕ) (p : Span) (script : List Step) (last : Bool) (at : Span) (t : TheoryText) (n : Name) (r : List Lexeme) → Gets (InBody h cs (InProof x p script (AfterUnfolded last (name_of n ∷ [])))) r t
-    → One basic_text (λ b. InBody h cs (InProof x p (script ++ basic_step b ∷ []) (AfterBasic last))) (Plain unfold_word at ∷ name_text n r) t
-got-unfold h cs x p script last at t n r g =
-    let m = got-each name_text (λ z y. z ++ name_of y ∷ []) (λ z. InBody h cs (InProof x p script (AfterUnfolded last z))) (λ z r. Gets (InBody h cs (InProof x p (script ++ tree.Unfold z ∷ []) (AfterBasic last))) r t) t (one-unfolded h cs x p script last t) (suc (length r)) (name_of n ∷ []) r (omega arith) g in
+got-unfold : (h : Header) (cs : List Command) (goal : Goal) (script : List Step) (last : Bool) (at : Span) (t : TheoryText) (n : Name) (r : List Lexeme) → Gets (InBody h cs (InProof goal script (AfterUnfolded last (name_of n ∷ [])))) r t
+    → One basic_text (λ b. InBody h cs (InProof goal (script ++ basic_step b ∷ []) (AfterBasic last))) (Plain unfold_word at ∷ name_text n r) t
+got-unfold h cs goal script last at t n r g =
+    let m = got-each name_text (λ z y. z ++ name_of y ∷ []) (λ z. InBody h cs (InProof goal script (AfterUnfolded last z))) (λ z r. Gets (InBody h cs (InProof goal (script ++ tree.Unfold z ∷ []) (AfterBasic last))) r t) t (one-unfolded h cs goal script last t) (suc (length r)) (name_of n ∷ []) r (omega arith) g in
     record {
       item = ByUnfold at n m.items;
       behind = m.behind;
       is = ap (λ z. Plain unfold_word at ∷ name_text n z) m.is;
-      gets = subst (λ z. Gets (InBody h cs (InProof x p (script ++ tree.Unfold z ∷ []) (AfterBasic last))) m.behind t) (fold-map name_of (name_of n ∷ []) m.items) m.ends;
+      gets = subst (λ z. Gets (InBody h cs (InProof goal (script ++ tree.Unfold z ∷ []) (AfterBasic last))) m.behind t) (fold-map name_of (name_of n ∷ []) m.items) m.ends;
       less = omega (arith, m.shorter, length-name_text n r);
     }
 
-got-unfolded : (h : Header) (cs : List Command) (x : List ℕ) (p : Span) (script : List Step) (last : Bool) (at : Span) (t : TheoryText) (r : List Lexeme) → Gets (InBody h cs (InProof x p script (AtUnfolded last))) r t
-    → One basic_text (λ b. InBody h cs (InProof x p (script ++ basic_step b ∷ []) (AfterBasic last))) (Plain unfold_word at ∷ r) t
-got-unfolded h cs x p script last at t [] g = absurd (none g refl)
-got-unfolded h cs x p script last at t (Plain text at' ∷ r) g = got-unfold h cs x p script last at t (Simple text at') r g
-got-unfolded h cs x p script last at t (Dotted text at' ∷ r) g = got-unfold h cs x p script last at t (Full text at') r g
-got-unfolded h cs x p script last at t (l ∷ r) g = absurd (none g refl)
+got-unfolded : (h : Header) (cs : List Command) (goal : Goal) (script : List Step) (last : Bool) (at : Span) (t : TheoryText) (r : List Lexeme) → Gets (InBody h cs (InProof goal script (AtUnfolded last))) r t
+    → One basic_text (λ b. InBody h cs (InProof goal (script ++ basic_step b ∷ []) (AfterBasic last))) (Plain unfold_word at ∷ r) t
+got-unfolded h cs goal script last at t [] g = absurd (none g refl)
+got-unfolded h cs goal script last at t (Plain text at' ∷ r) g = got-unfold h cs goal script last at t (Simple text at') r g
+got-unfolded h cs goal script last at t (Dotted text at' ∷ r) g = got-unfold h cs goal script last at t (Full text at') r g
+got-unfolded h cs goal script last at t (l ∷ r) g = absurd (none g refl)
 
 -- which word of the methods a text is
 data Which (w : List ℕ) : Type 0 where
@@ -482,143 +484,237 @@ which w = first_word (same w assumption_word) (same w rule_word) (same w erule_w
     first_word false false false false true i j k l m = is_unfold (same-is w unfold_word m)
     first_word false false false false false i j k l m = is_none i j k l m
 
-GotBasic : Header → List Command → List ℕ → Span → List Step → Bool → TheoryText → List Lexeme → Type 0
-GotBasic h cs x p script last t r = One basic_text (λ b. InBody h cs (InProof x p (script ++ basic_step b ∷ []) (AfterBasic last))) r t
+GotBasic : Header → List Command → Goal → List Step → Bool → TheoryText → List Lexeme → Type 0
+GotBasic h cs goal script last t r = One basic_text (λ b. InBody h cs (InProof goal (script ++ basic_step b ∷ []) (AfterBasic last))) r t
 
-got-basic_fact : (h : Header) (cs : List Command) (x : List ℕ) (p : Span) (script : List Step) (last : Bool) (m : FactMethod) (make : Name → BasicPhrase) (word : List ℕ) (at : Span) (t : TheoryText) (r : List Lexeme)
+got-basic_fact : (h : Header) (cs : List Command) (goal : Goal) (script : List Step) (last : Bool) (m : FactMethod) (make : Name → BasicPhrase) (word : List ℕ) (at : Span) (t : TheoryText) (r : List Lexeme)
     → ((n : Name) → basic_step (make n) ≡ fact_step m (name_of n)) → ((n : Name) (r : List Lexeme) → basic_text (make n) r ≡ Plain word at ∷ name_text n r)
-    → Gets (InBody h cs (InProof x p script (AtFact last m))) r t → GotBasic h cs x p script last t (Plain word at ∷ r)
+    → Gets (InBody h cs (InProof goal script (AtFact last m))) r t → GotBasic h cs goal script last t (Plain word at ∷ r)
 unfolding GotBasic
-got-basic_fact h cs x p script last m make word at t r step text g =
-    let o = got-fact h cs x p script last m t r g in
+got-basic_fact h cs goal script last m make word at t r step text g =
+    let o = got-fact h cs goal script last m t r g in
     record {
       item = make o.item;
       behind = o.behind;
       is = ap (λ z. Plain word at ∷ z) o.is ∙ sym (text o.item o.behind);
-      gets = subst (λ z. Gets (InBody h cs (InProof x p (script ++ z ∷ []) (AfterBasic last))) o.behind t) (sym (step o.item)) o.gets;
+      gets = subst (λ z. Gets (InBody h cs (InProof goal (script ++ z ∷ []) (AfterBasic last))) o.behind t) (sym (step o.item)) o.gets;
       less = omega (arith, o.less);
     }
 
-got-basic_word : (h : Header) (cs : List Command) (x : List ℕ) (p : Span) (script : List Step) (last : Bool) (t : TheoryText) (w : List ℕ) (at : Span) (r : List Lexeme) → Which w
-    → Gets (InBody h cs (InProof x p script (AtBasic last))) (Plain w at ∷ r) t → GotBasic h cs x p script last t (Plain w at ∷ r)
+got-basic_word : (h : Header) (cs : List Command) (goal : Goal) (script : List Step) (last : Bool) (t : TheoryText) (w : List ℕ) (at : Span) (r : List Lexeme) → Which w
+    → Gets (InBody h cs (InProof goal script (AtBasic last))) (Plain w at ∷ r) t → GotBasic h cs goal script last t (Plain w at ∷ r)
 unfolding GotBasic
-got-basic_word h cs x p script last t w at r (is_assumption e) g =
-    subst (λ w. Gets (InBody h cs (InProof x p script (AtBasic last))) (Plain w at ∷ r) t → GotBasic h cs x p script last t (Plain w at ∷ r)) (sym e)
+got-basic_word h cs goal script last t w at r (is_assumption e) g =
+    subst (λ w. Gets (InBody h cs (InProof goal script (AtBasic last))) (Plain w at ∷ r) t → GotBasic h cs goal script last t (Plain w at ∷ r)) (sym e)
     (λ g. record { item = ByAssumption at; behind = r; is = refl; gets = g; less = omega arith }) g
-got-basic_word h cs x p script last t w at r (is_rule e) g =
-    subst (λ w. Gets (InBody h cs (InProof x p script (AtBasic last))) (Plain w at ∷ r) t → GotBasic h cs x p script last t (Plain w at ∷ r)) (sym e)
-    (λ g. got-basic_fact h cs x p script last OfRule (ByRule at) rule_word at t r (λ n. refl) (λ n r. refl) g) g
-got-basic_word h cs x p script last t w at r (is_erule e) g =
-    subst (λ w. Gets (InBody h cs (InProof x p script (AtBasic last))) (Plain w at ∷ r) t → GotBasic h cs x p script last t (Plain w at ∷ r)) (sym e)
-    (λ g. got-basic_fact h cs x p script last OfErule (ByErule at) erule_word at t r (λ n. refl) (λ n r. refl) g) g
-got-basic_word h cs x p script last t w at r (is_drule e) g =
-    subst (λ w. Gets (InBody h cs (InProof x p script (AtBasic last))) (Plain w at ∷ r) t → GotBasic h cs x p script last t (Plain w at ∷ r)) (sym e)
-    (λ g. got-basic_fact h cs x p script last OfDrule (ByDrule at) drule_word at t r (λ n. refl) (λ n r. refl) g) g
-got-basic_word h cs x p script last t w at r (is_unfold e) g =
-    subst (λ w. Gets (InBody h cs (InProof x p script (AtBasic last))) (Plain w at ∷ r) t → GotBasic h cs x p script last t (Plain w at ∷ r)) (sym e)
-    (λ g. got-unfolded h cs x p script last at t r g) g
-got-basic_word h cs x p script last t w at r (is_none a b c d e) g = absurd (none (rw (a, b, c, d, e) at g) refl)
+got-basic_word h cs goal script last t w at r (is_rule e) g =
+    subst (λ w. Gets (InBody h cs (InProof goal script (AtBasic last))) (Plain w at ∷ r) t → GotBasic h cs goal script last t (Plain w at ∷ r)) (sym e)
+    (λ g. got-basic_fact h cs goal script last OfRule (ByRule at) rule_word at t r (λ n. refl) (λ n r. refl) g) g
+got-basic_word h cs goal script last t w at r (is_erule e) g =
+    subst (λ w. Gets (InBody h cs (InProof goal script (AtBasic last))) (Plain w at ∷ r) t → GotBasic h cs goal script last t (Plain w at ∷ r)) (sym e)
+    (λ g. got-basic_fact h cs goal script last OfErule (ByErule at) erule_word at t r (λ n. refl) (λ n r. refl) g) g
+got-basic_word h cs goal script last t w at r (is_drule e) g =
+    subst (λ w. Gets (InBody h cs (InProof goal script (AtBasic last))) (Plain w at ∷ r) t → GotBasic h cs goal script last t (Plain w at ∷ r)) (sym e)
+    (λ g. got-basic_fact h cs goal script last OfDrule (ByDrule at) drule_word at t r (λ n. refl) (λ n r. refl) g) g
+got-basic_word h cs goal script last t w at r (is_unfold e) g =
+    subst (λ w. Gets (InBody h cs (InProof goal script (AtBasic last))) (Plain w at ∷ r) t → GotBasic h cs goal script last t (Plain w at ∷ r)) (sym e)
+    (λ g. got-unfolded h cs goal script last at t r g) g
+got-basic_word h cs goal script last t w at r (is_none a b c d e) g = absurd (none (rw (a, b, c, d, e) at g) refl)
 
-got-basic : (h : Header) (cs : List Command) (x : List ℕ) (p : Span) (last : Bool) (t : TheoryText) (script : List Step) (r : List Lexeme) → Gets (InBody h cs (InProof x p script (AtBasic last))) r t
-    → One basic_text (λ b. InBody h cs (InProof x p (script ++ basic_step b ∷ []) (AfterBasic last))) r t
+got-basic : (h : Header) (cs : List Command) (goal : Goal) (last : Bool) (t : TheoryText) (script : List Step) (r : List Lexeme) → Gets (InBody h cs (InProof goal script (AtBasic last))) r t
+    → One basic_text (λ b. InBody h cs (InProof goal (script ++ basic_step b ∷ []) (AfterBasic last))) r t
 unfolding GotBasic
-got-basic h cs x p last t script [] g = absurd (none g refl)
-got-basic h cs x p last t script (Plain w at ∷ r) g = got-basic_word h cs x p script last t w at r (which w) g
-got-basic h cs x p last t script (l ∷ r) g = absurd (none g refl)
+got-basic h cs goal last t script [] g = absurd (none g refl)
+got-basic h cs goal last t script (Plain w at ∷ r) g = got-basic_word h cs goal script last t w at r (which w) g
+got-basic h cs goal last t script (l ∷ r) g = absurd (none g refl)
 
-one-basic : (h : Header) (cs : List Command) (x : List ℕ) (p : Span) (last : Bool) (t : TheoryText) (script : List Step) (r : List Lexeme) → Gets (InBody h cs (InProof x p script (AfterBasic last))) r t
-    → One (λ b r. Signed sign.Comma ∷ basic_text b r) (λ b. InBody h cs (InProof x p (script ++ basic_step b ∷ []) (AfterBasic last))) r t ⊎ Closed (Signed sign.CloseParenthesis) (after h cs x p last script) r t
-one-basic h cs x p last t script [] g = absurd (none g refl)
-one-basic h cs x p last t script (Signed sign.Comma ∷ r) g =
-    let o = got-basic h cs x p last t script r g in
+one-basic : (h : Header) (cs : List Command) (goal : Goal) (last : Bool) (t : TheoryText) (script : List Step) (r : List Lexeme) → Gets (InBody h cs (InProof goal script (AfterBasic last))) r t
+    → One (λ b r. Signed sign.Comma ∷ basic_text b r) (λ b. InBody h cs (InProof goal (script ++ basic_step b ∷ []) (AfterBasic last))) r t ⊎ Closed (Signed sign.CloseParenthesis) (after h cs goal last script) r t
+one-basic h cs goal last t script [] g = absurd (none g refl)
+one-basic h cs goal last t script (Signed sign.Comma ∷ r) g =
+    let o = got-basic h cs goal last t script r g in
     inl (record { item = o.item; behind = o.behind; is = ap (λ z. Signed sign.Comma ∷ z) o.is; gets = o.gets; less = omega (arith, o.less) })
-one-basic h cs x p true t script (Signed sign.CloseParenthesis ∷ r) g = inr (record { behind = r; is = refl; gets = g })
-one-basic h cs x p false t script (Signed sign.CloseParenthesis ∷ r) g = inr (record { behind = r; is = refl; gets = g })
-one-basic h cs x p last t script (l ∷ r) g = absurd (none g refl)
+one-basic h cs (OfLemma m) true t script (Signed sign.CloseParenthesis ∷ r) g = inr (record { behind = r; is = refl; gets = g })
+one-basic h cs (OfHave m x p) true t script (Signed sign.CloseParenthesis ∷ r) g = inr (record { behind = r; is = refl; gets = g })
+one-basic h cs goal false t script (Signed sign.CloseParenthesis ∷ r) g = inr (record { behind = r; is = refl; gets = g })
+one-basic h cs goal last t script (l ∷ r) g = absurd (none g refl)
 
-alone : (h : Header) (cs : List Command) (x : List ℕ) (p : Span) (script : List Step) (last : Bool) (t : TheoryText) (w : List ℕ) (at : Span) (r : List Lexeme) (b : Bool) → same w assumption_word ≡ b
-    → Gets (InBody h cs (InProof x p script (AtMethod last))) (Plain w at ∷ r) t → One method_text (λ m. after h cs x p last (script ++ method_steps m)) (Plain w at ∷ r) t
-alone h cs x p script true t w at r true e g =
-    subst (λ w. Gets (InBody h cs (InProof x p script (AtMethod true))) (Plain w at ∷ r) t → One method_text (λ m. after h cs x p true (script ++ method_steps m)) (Plain w at ∷ r) t) (sym (same-is w assumption_word e))
+alone : (h : Header) (cs : List Command) (goal : Goal) (script : List Step) (last : Bool) (t : TheoryText) (w : List ℕ) (at : Span) (r : List Lexeme) (b : Bool) → same w assumption_word ≡ b
+    → Gets (InBody h cs (InProof goal script (AtMethod last))) (Plain w at ∷ r) t → One method_text (λ m. after h cs goal last (script ++ method_steps m)) (Plain w at ∷ r) t
+alone h cs (OfLemma m) script true t w at r true e g =
+    subst (λ w. Gets (InBody h cs (InProof (OfLemma m) script (AtMethod true))) (Plain w at ∷ r) t → One method_text (λ y. after h cs (OfLemma m) true (script ++ method_steps y)) (Plain w at ∷ r) t) (sym (same-is w assumption_word e))
     (λ g. record { item = Alone at; behind = r; is = refl; gets = g; less = omega arith }) g
-alone h cs x p script false t w at r true e g =
-    subst (λ w. Gets (InBody h cs (InProof x p script (AtMethod false))) (Plain w at ∷ r) t → One method_text (λ m. after h cs x p false (script ++ method_steps m)) (Plain w at ∷ r) t) (sym (same-is w assumption_word e))
+alone h cs (OfHave m x p) script true t w at r true e g =
+    subst (λ w. Gets (InBody h cs (InProof (OfHave m x p) script (AtMethod true))) (Plain w at ∷ r) t → One method_text (λ y. after h cs (OfHave m x p) true (script ++ method_steps y)) (Plain w at ∷ r) t) (sym (same-is w assumption_word e))
     (λ g. record { item = Alone at; behind = r; is = refl; gets = g; less = omega arith }) g
-alone h cs x p script last t w at r false e g = absurd (none (rw e at g) refl)
+alone h cs goal script false t w at r true e g =
+    subst (λ w. Gets (InBody h cs (InProof goal script (AtMethod false))) (Plain w at ∷ r) t → One method_text (λ m. after h cs goal false (script ++ method_steps m)) (Plain w at ∷ r) t) (sym (same-is w assumption_word e))
+    (λ g. record { item = Alone at; behind = r; is = refl; gets = g; less = omega arith }) g
+alone h cs goal script last t w at r false e g = absurd (none (rw e at g) refl)
 
-got-method : (h : Header) (cs : List Command) (x : List ℕ) (p : Span) (script : List Step) (last : Bool) (t : TheoryText) (r : List Lexeme) → Gets (InBody h cs (InProof x p script (AtMethod last))) r t
-    → One method_text (λ m. after h cs x p last (script ++ method_steps m)) r t
-got-method h cs x p script last t [] g = absurd (none g refl)
-got-method h cs x p script last t (Plain w at ∷ r) g = alone h cs x p script last t w at r (same w assumption_word) refl g
-got-method h cs x p script last t (Signed sign.OpenParenthesis ∷ r) g =
-    let o = got-basic h cs x p last t script r g in
-    let m = got-each (λ b r. Signed sign.Comma ∷ basic_text b r) (λ z y. z ++ basic_step y ∷ []) (λ z. InBody h cs (InProof x p z (AfterBasic last))) (λ z r. Closed (Signed sign.CloseParenthesis) (after h cs x p last z) r t) t (one-basic h cs x p last t) (suc (length o.behind)) (script ++ basic_step o.item ∷ []) o.behind (omega arith) o.gets in
+got-method : (h : Header) (cs : List Command) (goal : Goal) (script : List Step) (last : Bool) (t : TheoryText) (r : List Lexeme) → Gets (InBody h cs (InProof goal script (AtMethod last))) r t
+    → One method_text (λ m. after h cs goal last (script ++ method_steps m)) r t
+got-method h cs goal script last t [] g = absurd (none g refl)
+got-method h cs goal script last t (Plain w at ∷ r) g = alone h cs goal script last t w at r (same w assumption_word) refl g
+got-method h cs goal script last t (Signed sign.OpenParenthesis ∷ r) g =
+    let o = got-basic h cs goal last t script r g in
+    let m = got-each (λ b r. Signed sign.Comma ∷ basic_text b r) (λ z y. z ++ basic_step y ∷ []) (λ z. InBody h cs (InProof goal z (AfterBasic last))) (λ z r. Closed (Signed sign.CloseParenthesis) (after h cs goal last z) r t) t (one-basic h cs goal last t) (suc (length o.behind)) (script ++ basic_step o.item ∷ []) o.behind (omega arith) o.gets in
     let l : length m.behind ≡ suc (length m.ends.behind) = ap length m.ends.is in
     record {
       item = Together o.item m.items;
       behind = m.ends.behind;
       is = ap (λ z. Signed sign.OpenParenthesis ∷ z) (o.is ∙ ap (basic_text o.item) (m.is ∙ ap (each_comma basic_text m.items) m.ends.is));
-      gets = subst (λ z. Gets (after h cs x p last z) m.ends.behind t) (fold-map basic_step (script ++ basic_step o.item ∷ []) m.items ∙ append_assoc script (basic_step o.item ∷ []) (map basic_step m.items)) m.ends.gets;
+      gets = subst (λ z. Gets (after h cs goal last z) m.ends.behind t) (fold-map basic_step (script ++ basic_step o.item ∷ []) m.items ∙ append_assoc script (basic_step o.item ∷ []) (map basic_step m.items)) m.ends.gets;
       less = omega (arith, o.less, m.shorter, l);
     }
-got-method h cs x p script last t (l ∷ r) g = absurd (none g refl)
+got-method h cs goal script last t (l ∷ r) g = absurd (none g refl)
 
 -- the end of a proof
-abbrev OutProof : Header → List Command → List ℕ → Span → TheoryText → List Step → List Lexeme → Type 0
-OutProof h cs x p t script r = One end_text (λ e. InBody h (cs ++ tree.Lemma x p [] (script ++ end_steps e) ∷ []) AtCommand) r t
+abbrev OutProof : Header → List Command → Goal → TheoryText → List Step → List Lexeme → Type 0
+OutProof h cs goal t script r = One end_text (λ e. ended h cs goal (script ++ end_steps e)) r t
 
-one-step : (h : Header) (cs : List Command) (x : List ℕ) (p : Span) (t : TheoryText) (script : List Step) (r : List Lexeme) → Gets (InBody h cs (InProof x p script AtStep)) r t
-    → One step_text (λ s. InBody h cs (InProof x p (script ++ step_steps s) AtStep)) r t ⊎ OutProof h cs x p t script r
-one-step h cs x p t script [] g = absurd (none g refl)
-one-step h cs x p t script (Reserved keyword.Apply ∷ r) g =
-    let m = got-method h cs x p script false t r g in
+one-step : (h : Header) (cs : List Command) (goal : Goal) (t : TheoryText) (script : List Step) (r : List Lexeme) → Gets (InBody h cs (InProof goal script AtStep)) r t
+    → One step_text (λ s. InBody h cs (InProof goal (script ++ step_steps s) AtStep)) r t ⊎ OutProof h cs goal t script r
+one-step h cs goal t script [] g = absurd (none g refl)
+one-step h cs goal t script (Reserved keyword.Apply ∷ r) g =
+    let m = got-method h cs goal script false t r g in
     inl (record { item = ApplyStep m.item; behind = m.behind; is = ap (λ z. Reserved keyword.Apply ∷ z) m.is; gets = m.gets; less = omega (arith, m.less) })
-one-step h cs x p t script (Reserved keyword.Prefer ∷ []) g = absurd (none g refl)
-one-step h cs x p t script (Reserved keyword.Prefer ∷ Numeral n ∷ r) g = inl (record { item = PreferStep n; behind = r; is = refl; gets = g; less = omega arith })
-one-step h cs x p t script (Reserved keyword.Prefer ∷ l ∷ r) g = absurd (none g refl)
-one-step h cs x p t script (Reserved keyword.Defer ∷ r) g = inl (record { item = DeferStep; behind = r; is = refl; gets = g; less = omega arith })
-one-step h cs x p t script (Reserved keyword.Done ∷ r) g = inr (record { item = DoneEnd; behind = r; is = refl; gets = g; less = omega arith })
-one-step h cs x p t script (Reserved keyword.By ∷ r) g =
-    let m = got-method h cs x p script true t r g in
+one-step h cs goal t script (Reserved keyword.Prefer ∷ []) g = absurd (none g refl)
+one-step h cs goal t script (Reserved keyword.Prefer ∷ Numeral n ∷ r) g = inl (record { item = PreferStep n; behind = r; is = refl; gets = g; less = omega arith })
+one-step h cs goal t script (Reserved keyword.Prefer ∷ l ∷ r) g = absurd (none g refl)
+one-step h cs goal t script (Reserved keyword.Defer ∷ r) g = inl (record { item = DeferStep; behind = r; is = refl; gets = g; less = omega arith })
+one-step h cs (OfLemma m) t script (Reserved keyword.Done ∷ r) g = inr (record { item = DoneEnd; behind = r; is = refl; gets = g; less = omega arith })
+one-step h cs (OfHave m x p) t script (Reserved keyword.Done ∷ r) g = inr (record { item = DoneEnd; behind = r; is = refl; gets = g; less = omega arith })
+one-step h cs goal t script (Reserved keyword.By ∷ r) g =
+    let m = got-method h cs goal script true t r g in
     inr (record {
       item = ByEnd m.item;
       behind = m.behind;
       is = ap (λ z. Reserved keyword.By ∷ z) m.is;
-      gets = subst (λ z. Gets (InBody h (cs ++ tree.Lemma x p [] z ∷ []) AtCommand) m.behind t) (append_assoc script (method_steps m.item) (tree.Close ∷ tree.Done ∷ [])) m.gets;
+      gets = subst (λ z. Gets (ended h cs goal z) m.behind t) (append_assoc script (method_steps m.item) (tree.Close ∷ tree.Done ∷ [])) m.gets;
       less = omega (arith, m.less);
     })
-one-step h cs x p t script (l ∷ r) g = absurd (none g refl)
+one-step h cs goal t script (l ∷ r) g = absurd (none g refl)
 
-got-proof : (h : Header) (cs : List Command) (x : List ℕ) (p : Span) (t : TheoryText) (r : List Lexeme) → Gets (InBody h cs (InProof x p [] AtStep)) r t
-    → One proof_text (λ y. InBody h (cs ++ tree.Lemma x p [] (proof_steps y) ∷ []) AtCommand) r t
-got-proof h cs x p t r g =
-    let m = got-each step_text (λ z y. z ++ step_steps y) (λ z. InBody h cs (InProof x p z AtStep)) (OutProof h cs x p t) t (one-step h cs x p t) (suc (length r)) [] r (omega arith) g in
+got-proof : (h : Header) (cs : List Command) (goal : Goal) (t : TheoryText) (r : List Lexeme) → Gets (InBody h cs (InProof goal [] AtStep)) r t
+    → One proof_text (λ y. ended h cs goal (proof_steps y)) r t
+got-proof h cs goal t r g =
+    let m = got-each step_text (λ z y. z ++ step_steps y) (λ z. InBody h cs (InProof goal z AtStep)) (OutProof h cs goal t) t (one-step h cs goal t) (suc (length r)) [] r (omega arith) g in
     record {
       item = record { steps = m.items; ending = m.ends.item };
       behind = m.ends.behind;
       is = m.is ∙ ap (each step_text m.items) m.ends.is;
-      gets = subst (λ z. Gets (InBody h (cs ++ tree.Lemma x p [] (z ++ end_steps m.ends.item) ∷ []) AtCommand) m.ends.behind t) (fold-all step_steps [] m.items) m.ends.gets;
+      gets = subst (λ z. Gets (ended h cs goal (z ++ end_steps m.ends.item)) m.ends.behind t) (fold-all step_steps [] m.items) m.ends.gets;
       less = omega (arith, m.shorter, m.ends.less);
     }
 
--- a statement and its proof
-record LemmaPhrase : Type 0 where
-  statement : AxiomPhrase
-  proof : ProofPhrase
+-- ---- haves
+-- a have, behind its word
+record GotHave (h : Header) (cs : List Command) (m : OpenLemma) (r : List Lexeme) (t : TheoryText) : Type 0 where
+  item : HavePhrase
+  behind : List Lexeme
+  is : r ≡ axiom_text item.statement (proof_text item.proof behind)
+  gets : Gets (InBody h cs (AtProof (with_have m item.statement.name.text item.statement.prop (proof_steps item.proof)))) behind t
+  less : length behind < length r
 
-got-lemma : (h : Header) (cs : List Command) (t : TheoryText) (r : List Lexeme) → Gets (InBody h cs AtLemma) r t
-    → One (λ (y : LemmaPhrase) r. axiom_text y.statement (proof_text y.proof r)) (λ y. InBody h (cs ++ tree.Lemma y.statement.name.text y.statement.prop [] (proof_steps y.proof) ∷ []) AtCommand) r t
-got-lemma h cs t [] g = absurd (none g refl)
-got-lemma h cs t (Plain x at ∷ []) g = absurd (none g refl)
-got-lemma h cs t (Plain x at ∷ Signed sign.Colon ∷ []) g = absurd (none g refl)
-got-lemma h cs t (Plain x at ∷ Signed sign.Colon ∷ Quoted p ∷ r) g =
-    let o = got-proof h cs x p t r g in
+got-have : (h : Header) (cs : List Command) (m : OpenLemma) (t : TheoryText) (r : List Lexeme) → Gets (InBody h cs (AtHave m)) r t → GotHave h cs m r t
+got-have h cs m t [] g = absurd (none g refl)
+got-have h cs m t (Plain x at ∷ []) g = absurd (none g refl)
+got-have h cs m t (Plain x at ∷ Signed sign.Colon ∷ []) g = absurd (none g refl)
+got-have h cs m t (Plain x at ∷ Signed sign.Colon ∷ Quoted p ∷ r) g =
+    let o = got-proof h cs (OfHave m x p) t r g in
     record {
       item = record { statement = record { name = record { text = x; at = at }; prop = p }; proof = o.item };
       behind = o.behind;
       is = ap (λ z. Plain x at ∷ Signed sign.Colon ∷ Quoted p ∷ z) o.is;
       gets = o.gets;
       less = omega (arith, o.less);
+    }
+got-have h cs m t (Plain x at ∷ Signed sign.Colon ∷ l ∷ r) g = absurd (none g refl)
+got-have h cs m t (Plain x at ∷ l ∷ r) g = absurd (none g refl)
+got-have h cs m t (l ∷ r) g = absurd (none g refl)
+
+-- a have begins, and the file isn't of version 1
+record HaveBegins (h : Header) (cs : List Command) (m : OpenLemma) (r : List Lexeme) (t : TheoryText) : Type 0 where
+  behind : List Lexeme
+  is : r ≡ Reserved keyword.Have ∷ behind
+  later : h.version == 1 ≡ false
+  gets : Gets (InBody h cs (AtHave m)) behind t
+
+have-begins : (h : Header) (cs : List Command) (m : OpenLemma) (t : TheoryText) (r : List Lexeme) (b : Bool) → h.version == 1 ≡ b → Gets (InBody h cs (AtProof m)) (Reserved keyword.Have ∷ r) t
+    → HaveBegins h cs m (Reserved keyword.Have ∷ r) t
+have-begins h cs m t r true e g = absurd (none (rw e at g) refl)
+have-begins h cs m t r false e g = record { behind = r; is = refl; later = e; gets = rw e at g }
+
+-- behind a statement a have begins, or the lemma's own proof
+proof-begins : (h : Header) (cs : List Command) (m : OpenLemma) (t : TheoryText) (r : List Lexeme) → Gets (InBody h cs (AtProof m)) r t
+    → HaveBegins h cs m r t ⊎ Gets (InBody h cs (InProof (OfLemma m) [] AtStep)) r t
+proof-begins h cs m t [] g = absurd (none g refl)
+proof-begins h cs m t (Reserved keyword.Have ∷ r) g = inl (have-begins h cs m t r (h.version == 1) refl g)
+proof-begins h cs m t (Reserved keyword.Apply ∷ r) g = inr g
+proof-begins h cs m t (Reserved keyword.Prefer ∷ r) g = inr g
+proof-begins h cs m t (Reserved keyword.Defer ∷ r) g = inr g
+proof-begins h cs m t (Reserved keyword.Done ∷ r) g = inr g
+proof-begins h cs m t (Reserved keyword.By ∷ r) g = inr g
+proof-begins h cs m t (l ∷ r) g = absurd (none g refl)
+
+abbrev OutHaves : Header → List Command → List ℕ → Span → TheoryText → List Have → List Lexeme → Type 0
+OutHaves h cs x p t haves r = Gets (InBody h cs (InProof (OfLemma (open_lemma x p haves)) [] AtStep)) r t
+
+one-have : (h : Header) (cs : List Command) (x : List ℕ) (p : Span) (t : TheoryText) (before : List Have) (r : List Lexeme) → Gets (InBody h cs (AtProof (open_lemma x p before))) r t
+    → One have_text (λ y. InBody h cs (AtProof (open_lemma x p (before ++ have_of y ∷ [])))) r t ⊎ OutHaves h cs x p t before r
+one-have h cs x p t before r g = elim (proof-begins h cs (open_lemma x p before) t r g) [
+  | inl b ↦ (let o = got-have h cs (open_lemma x p before) t b.behind b.gets in
+      let l : length r ≡ suc (length b.behind) = ap length b.is in
+      inl (record { item = o.item; behind = o.behind; is = b.is ∙ ap (λ z. Reserved keyword.Have ∷ z) o.is; gets = o.gets; less = omega (arith, o.less, l) }))
+  | inr own ↦ inr own
+]
+
+-- the haves of a lemma were read, none in a file of version 1, and its own proof begins
+record GotHaves (h : Header) (cs : List Command) (x : List ℕ) (p : Span) (r : List Lexeme) (t : TheoryText) : Type 0 where
+  haves : List HavePhrase
+  allowed : h.version ≡ 1 → haves ≡ []
+  behind : List Lexeme
+  is : r ≡ each have_text haves behind
+  gets : Gets (InBody h cs (InProof (OfLemma (open_lemma x p (map have_of haves))) [] AtStep)) behind t
+  shorter : length behind ≤ length r
+
+got-haves : (h : Header) (cs : List Command) (x : List ℕ) (p : Span) (t : TheoryText) (r : List Lexeme) → Gets (InBody h cs (AtProof (open_lemma x p []))) r t → GotHaves h cs x p r t
+got-haves h cs x p t r g = elim (proof-begins h cs (open_lemma x p []) t r g) [
+  | inl b ↦ (let m = got-each have_text (λ z y. z ++ have_of y ∷ []) (λ z. InBody h cs (AtProof (open_lemma x p z))) (OutHaves h cs x p t) t (one-have h cs x p t) (suc (length r)) [] r (omega arith) g in
+      record {
+        haves = m.items;
+        allowed = λ e. absurd (eqb-false h.version 1 b.later e);
+        behind = m.behind;
+        is = m.is;
+        gets = subst (λ z. OutHaves h cs x p t z m.behind) (fold-map have_of [] m.items) m.ends;
+        shorter = m.shorter;
+      })
+  | inr own ↦ record { haves = []; allowed = λ e. refl; behind = r; is = refl; gets = own; shorter = omega arith }
+]
+
+-- a statement, its haves and its proof
+record LemmaPhrase (version : ℕ) : Type 0 where
+  statement : AxiomPhrase
+  haves : List HavePhrase
+  allowed : version ≡ 1 → haves ≡ []
+  proof : ProofPhrase
+
+got-lemma : (h : Header) (cs : List Command) (t : TheoryText) (r : List Lexeme) → Gets (InBody h cs AtLemma) r t
+    → One (λ (y : LemmaPhrase h.version) r. axiom_text y.statement (each have_text y.haves (proof_text y.proof r)))
+    (λ y. InBody h (cs ++ tree.Lemma y.statement.name.text y.statement.prop (map have_of y.haves) (proof_steps y.proof) ∷ []) AtCommand) r t
+got-lemma h cs t [] g = absurd (none g refl)
+got-lemma h cs t (Plain x at ∷ []) g = absurd (none g refl)
+got-lemma h cs t (Plain x at ∷ Signed sign.Colon ∷ []) g = absurd (none g refl)
+got-lemma h cs t (Plain x at ∷ Signed sign.Colon ∷ Quoted p ∷ r) g =
+    let m = got-haves h cs x p t r g in
+    let o = got-proof h cs (OfLemma (open_lemma x p (map have_of m.haves))) t m.behind m.gets in
+    record {
+      item = record { statement = record { name = record { text = x; at = at }; prop = p }; haves = m.haves; allowed = m.allowed; proof = o.item };
+      behind = o.behind;
+      is = ap (λ z. Plain x at ∷ Signed sign.Colon ∷ Quoted p ∷ z) (m.is ∙ ap (each have_text m.haves) o.is);
+      gets = o.gets;
+      less = omega (arith, m.shorter, o.less);
     }
 got-lemma h cs t (Plain x at ∷ Signed sign.Colon ∷ l ∷ r) g = absurd (none g refl)
 got-lemma h cs t (Plain x at ∷ l ∷ r) g = absurd (none g refl)
@@ -627,9 +723,9 @@ got-lemma h cs t (l ∷ r) g = absurd (none g refl)
 -- ---- the commands of a theory
 record GotCommands (h : Header) (before : List Command) (r : List Lexeme) (t : TheoryText) : Type 0 where
   commands : List CommandPhrase
-  distinct : AllByRecursion IsCommandPhrase commands
+  allowed : AllByRecursion (IsCommandPhrase h.version) commands
   is : r ≡ each command_text commands (Reserved keyword.End ∷ Ends ∷ [])
-  theory : record { version = 1; name = h.name; imports = h.imports; commands = before ++ commands_of commands } ≡ t
+  theory : record { version = h.version; name = h.name; imports = h.imports; commands = before ++ commands_of commands } ≡ t
 
 the_theory : TheoryText → Outcome → TheoryText
 the_theory t (Through (AtLast u)) = u
@@ -649,13 +745,13 @@ one-command h t before (Reserved keyword.Axiomatization ∷ r) g = inl (got-axio
 one-command h t before (Reserved keyword.Definition ∷ r) g = inl (got-definition h before t r g)
 one-command h t before (Reserved keyword.Lemma ∷ r) g =
     let o = got-lemma h before t r g in
-    inl (record { command = LemmaCommand LemmaWritten o.item.statement o.item.proof; distinct = tt; behind = o.behind; is = ap (λ z. Reserved keyword.Lemma ∷ z) o.is; gets = o.gets; less = omega (arith, o.less) })
+    inl (record { command = LemmaCommand LemmaWritten o.item.statement o.item.haves o.item.proof; allowed = o.item.allowed; behind = o.behind; is = ap (λ z. Reserved keyword.Lemma ∷ z) o.is; gets = o.gets; less = omega (arith, o.less) })
 one-command h t before (Reserved keyword.Theorem ∷ r) g =
     let o = got-lemma h before t r g in
-    inl (record { command = LemmaCommand TheoremWritten o.item.statement o.item.proof; distinct = tt; behind = o.behind; is = ap (λ z. Reserved keyword.Theorem ∷ z) o.is; gets = o.gets; less = omega (arith, o.less) })
+    inl (record { command = LemmaCommand TheoremWritten o.item.statement o.item.haves o.item.proof; allowed = o.item.allowed; behind = o.behind; is = ap (λ z. Reserved keyword.Theorem ∷ z) o.is; gets = o.gets; less = omega (arith, o.less) })
 one-command h t before (Reserved keyword.End ∷ []) g = absurd (none g refl)
 one-command h t before (Reserved keyword.End ∷ Ends ∷ []) g =
-    inr (record { commands = []; distinct = tt; is = refl; theory = ap (λ z. record { version = 1; name = h.name; imports = h.imports; commands = z }) (append-nil before) ∙ AtLast-once _ t g })
+    inr (record { commands = []; allowed = tt; is = refl; theory = ap (λ z. record { version = h.version; name = h.name; imports = h.imports; commands = z }) (append-nil before) ∙ AtLast-once _ t g })
 one-command h t before (Reserved keyword.End ∷ Ends ∷ l ∷ r) g = absurd (none g refl)
 one-command h t before (Reserved keyword.End ∷ l ∷ r) g = absurd (none g refl)
 one-command h t before (l ∷ r) g = absurd (none g refl)
@@ -668,9 +764,9 @@ more_commands h t n before r again fits (inl o) =
     let m = again (before ++ phrase_commands o.command) o.behind (omega (arith, o.less, fits)) o.gets in
     record {
       commands = o.command ∷ m.commands;
-      distinct = (o.distinct, m.distinct);
+      allowed = (o.allowed, m.allowed);
       is = o.is ∙ ap (command_text o.command) m.is;
-      theory = ap (λ z. record { version = 1; name = h.name; imports = h.imports; commands = z }) (sym (append_assoc before (phrase_commands o.command) (commands_of m.commands))) ∙ m.theory;
+      theory = ap (λ z. record { version = h.version; name = h.name; imports = h.imports; commands = z }) (sym (append_assoc before (phrase_commands o.command) (commands_of m.commands))) ∙ m.theory;
     }
 
 got-commands : (h : Header) (t : TheoryText) (n : ℕ) (before : List Command) (r : List Lexeme) → length r < n → Gets (InBody h before AtCommand) r t → GotCommands h before r t
@@ -678,50 +774,59 @@ got-commands h t zero before r fits g = absurd (omega (arith, fits))
 got-commands h t (suc n) before r fits g = more_commands h t n before r (got-commands h t n) fits (one-command h t before r g)
 
 -- ---- files
-record GotImports (x : List ℕ) (known : List (List ℕ)) (r : List Lexeme) (t : TheoryText) : Type 0 where
+record GotImports (v : ℕ) (x : List ℕ) (known : List (List ℕ)) (r : List Lexeme) (t : TheoryText) : Type 0 where
   more : List Ident
   behind : List Lexeme
   is : r ≡ each ident_text more (Reserved keyword.Begin ∷ behind)
-  gets : Gets (InBody (record { name = x; imports = mentions known more }) [] AtCommand) behind t
+  gets : Gets (InBody (record { version = v; name = x; imports = mentions known more }) [] AtCommand) behind t
 
-got-imports : (x : List ℕ) (t : TheoryText) (known : List (List ℕ)) (r : List Lexeme) → Gets (AfterImport (record { name = x; imports = known })) r t → GotImports x known r t
-got-imports x t known [] g = absurd (none g refl)
-got-imports x t known (Plain y at ∷ r) g =
-    let m = got-imports x t (with_text known y) r g in
+got-imports : (v : ℕ) (x : List ℕ) (t : TheoryText) (known : List (List ℕ)) (r : List Lexeme) → Gets (AfterImport (record { version = v; name = x; imports = known })) r t → GotImports v x known r t
+got-imports v x t known [] g = absurd (none g refl)
+got-imports v x t known (Plain y at ∷ r) g =
+    let m = got-imports v x t (with_text known y) r g in
     record { more = (record { text = y; at = at }) ∷ m.more; behind = m.behind; is = ap (λ z. Plain y at ∷ z) m.is; gets = m.gets }
-got-imports x t known (Reserved keyword.Begin ∷ r) g = record { more = []; behind = r; is = refl; gets = g }
-got-imports x t known (l ∷ r) g = absurd (none g refl)
+got-imports v x t known (Reserved keyword.Begin ∷ r) g = record { more = []; behind = r; is = refl; gets = g }
+got-imports v x t known (l ∷ r) g = absurd (none g refl)
 
 -- the text of a file that means the theory
 pub record GotFile (r : List Lexeme) (t : TheoryText) : Type 0 where
   pub file : FilePhrase
-  pub distinct : AllByRecursion IsCommandPhrase file.commands
+  pub allowed : AllByRecursion (IsCommandPhrase (version_of file.version)) file.commands
   pub is : r ≡ file_text file
   pub theory : file_tree file ≡ t
 
+-- the file, behind its version and the word `theory`
+got-theory : (v : VersionPhrase) (t : TheoryText) (r : List Lexeme) → Gets (AtTheoryName (version_of v)) r t → GotFile (version_text v (Reserved keyword.Theory ∷ r)) t
+got-theory v t [] g = absurd (none g refl)
+got-theory v t (Plain x at ∷ []) g = absurd (none g refl)
+got-theory v t (Plain x at ∷ Reserved keyword.Begin ∷ r) g =
+    let m = got-commands (record { version = version_of v; name = x; imports = imports_of NoImport }) t (suc (length r)) [] r (omega arith) g in
+    record {
+      file = record { version = v; name = record { text = x; at = at }; imports = NoImport; commands = m.commands };
+      allowed = m.allowed;
+      is = ap (λ z. version_text v (Reserved keyword.Theory ∷ Plain x at ∷ Reserved keyword.Begin ∷ z)) m.is;
+      theory = m.theory;
+    }
+got-theory v t (Plain x at ∷ Reserved keyword.Imports ∷ []) g = absurd (none g refl)
+got-theory v t (Plain x at ∷ Reserved keyword.Imports ∷ Plain i at' ∷ r) g =
+    let j = got-imports (version_of v) x t (i ∷ []) r g in
+    let m = got-commands (record { version = version_of v; name = x; imports = mentions (i ∷ []) j.more }) t (suc (length j.behind)) [] j.behind (omega arith) j.gets in
+    record {
+      file = record { version = v; name = record { text = x; at = at }; imports = Imports (record { text = i; at = at' }) j.more; commands = m.commands };
+      allowed = m.allowed;
+      is = ap (λ z. version_text v (Reserved keyword.Theory ∷ Plain x at ∷ Reserved keyword.Imports ∷ Plain i at' ∷ z)) (j.is ∙ ap (λ z. each ident_text j.more (Reserved keyword.Begin ∷ z)) m.is);
+      theory = m.theory;
+    }
+got-theory v t (Plain x at ∷ Reserved keyword.Imports ∷ l ∷ r) g = absurd (none g refl)
+got-theory v t (Plain x at ∷ l ∷ r) g = absurd (none g refl)
+got-theory v t (l ∷ r) g = absurd (none g refl)
+
 pub got-file : (t : TheoryText) (r : List Lexeme) → Gets AtStart r t → GotFile r t
 got-file t [] g = absurd (none g refl)
-got-file t (Reserved keyword.Theory ∷ []) g = absurd (none g refl)
-got-file t (Reserved keyword.Theory ∷ Plain x at ∷ []) g = absurd (none g refl)
-got-file t (Reserved keyword.Theory ∷ Plain x at ∷ Reserved keyword.Begin ∷ r) g =
-    let m = got-commands (record { name = x; imports = imports_of NoImport }) t (suc (length r)) [] r (omega arith) g in
-    record {
-      file = record { name = record { text = x; at = at }; imports = NoImport; commands = m.commands };
-      distinct = m.distinct;
-      is = ap (λ z. Reserved keyword.Theory ∷ Plain x at ∷ Reserved keyword.Begin ∷ z) m.is;
-      theory = m.theory;
-    }
-got-file t (Reserved keyword.Theory ∷ Plain x at ∷ Reserved keyword.Imports ∷ []) g = absurd (none g refl)
-got-file t (Reserved keyword.Theory ∷ Plain x at ∷ Reserved keyword.Imports ∷ Plain i at' ∷ r) g =
-    let j = got-imports x t (i ∷ []) r g in
-    let m = got-commands (record { name = x; imports = mentions (i ∷ []) j.more }) t (suc (length j.behind)) [] j.behind (omega arith) j.gets in
-    record {
-      file = record { name = record { text = x; at = at }; imports = Imports (record { text = i; at = at' }) j.more; commands = m.commands };
-      distinct = m.distinct;
-      is = ap (λ z. Reserved keyword.Theory ∷ Plain x at ∷ Reserved keyword.Imports ∷ Plain i at' ∷ z) (j.is ∙ ap (λ z. each ident_text j.more (Reserved keyword.Begin ∷ z)) m.is);
-      theory = m.theory;
-    }
-got-file t (Reserved keyword.Theory ∷ Plain x at ∷ Reserved keyword.Imports ∷ l ∷ r) g = absurd (none g refl)
-got-file t (Reserved keyword.Theory ∷ Plain x at ∷ l ∷ r) g = absurd (none g refl)
-got-file t (Reserved keyword.Theory ∷ l ∷ r) g = absurd (none g refl)
+got-file t (Reserved keyword.Theory ∷ r) g = got-theory NoVersion t r g
+got-file t (Reserved keyword.Version ∷ []) g = absurd (none g refl)
+got-file t (Reserved keyword.Version ∷ Numeral n ∷ []) g = absurd (none g refl)
+got-file t (Reserved keyword.Version ∷ Numeral n ∷ Reserved keyword.Theory ∷ r) g = got-theory (WrittenVersion n) t r g
+got-file t (Reserved keyword.Version ∷ Numeral n ∷ l ∷ r) g = absurd (none g refl)
+got-file t (Reserved keyword.Version ∷ l ∷ r) g = absurd (none g refl)
 got-file t (l ∷ r) g = absurd (none g refl)

@@ -1,19 +1,19 @@
 -- The reader reads each phrase.
-use Rattle.std.proofs.Common.{◌≡◌, ℕ, List, [], ◌∷◌, ◌++◌, length, refl, sym, ◌∙◌, ap, append_assoc}
+use Rattle.std.proofs.Common.{◌≡◌, ℕ, ◌==◌, List, [], ◌∷◌, ◌++◌, length, refl, sym, ◌∙◌, ap, append_assoc, ne_eqb}
 use Rattle.std.proofs.lemmas.List.{append-nil}
 use Rattle.std.specs.Prelude.{Bool, true, false, Some, map}
 use Rattle.std.specs.List.{list_any, AllByRecursion}
 use Rattle.pure_grammar.specs.declared.lexeme.Keyword.{Keyword}
 use Rattle.pure_grammar.specs.declared.lexeme.Keyword.TheVariants as keyword
 use Rattle.pure_grammar.specs.declared.lexeme.Sign.TheVariants as sign
-use Rattle.pure_grammar.specs.Theories.TheoryText.{Span, Step, Command, TheoryText}
+use Rattle.pure_grammar.specs.Theories.TheoryText.{Span, Step, Have, Command}
 use Rattle.pure_grammar.specs.Theories.TheoryText as tree
 use Rattle.pure_grammar.specs.Theories.Lexeme.{Lexeme, Reserved, Signed, Quoted, Ends, same, is_word}
-use Rattle.pure_grammar.specs.Theories.Phrase.{Ident, Name, Simple, Full, TypeVariable, TypePhrase, QuotedType, NamedType, VariableType, SortPhrase, OneClass, NoClass, Classes, BasicPhrase, ByAssumption, ByRule, ByErule, ByDrule, ByUnfold, MethodPhrase, Alone, Together, StepPhrase, ApplyStep, PreferStep, DeferStep, EndPhrase, DoneEnd, ByEnd, ProofPhrase, AbovePhrase, NoneAbove, Above, ParamsPhrase, NoParam, OneParam, Params, DomainsPhrase, NoDomain, Domains, ItemPhrase, AxiomPhrase, LemmaWritten, TheoremWritten, CommandPhrase, ClassCommand, TypedeclCommand, AritiesCommand, ConstsCommand, AxiomsCommand, DefinitionCommand, LemmaCommand, ImportsPhrase, NoImport, Imports, FilePhrase}
-use Rattle.pure_grammar.specs.Theories.PhraseText.{each, each_comma, name_text, ident_text, variable_text, type_text, sort_text, basic_text, method_text, step_text, end_text, proof_text, above_text, params_text, domains_text, item_text, and_axiom_text, command_text, file_text}
-use Rattle.pure_grammar.specs.Theories.PhraseTree.{all_of, name_of, names_of, type_span, sort_of, basic_step, method_steps, step_steps, end_steps, steps_of, proof_steps, above_of, params_of, domains_of, item_command, axiom_command, phrase_commands, commands_of, with_text, mentions, imports_of, file_tree, IsCommandPhrase}
+use Rattle.pure_grammar.specs.Theories.Phrase.{Ident, Name, Simple, Full, TypeVariable, TypePhrase, QuotedType, NamedType, VariableType, SortPhrase, OneClass, NoClass, Classes, BasicPhrase, ByAssumption, ByRule, ByErule, ByDrule, ByUnfold, MethodPhrase, Alone, Together, StepPhrase, ApplyStep, PreferStep, DeferStep, EndPhrase, DoneEnd, ByEnd, ProofPhrase, AbovePhrase, NoneAbove, Above, ParamsPhrase, NoParam, OneParam, Params, DomainsPhrase, NoDomain, Domains, ItemPhrase, AxiomPhrase, LemmaWritten, TheoremWritten, HavePhrase, CommandPhrase, ClassCommand, TypedeclCommand, AritiesCommand, ConstsCommand, AxiomsCommand, DefinitionCommand, LemmaCommand, ImportsPhrase, NoImport, Imports, VersionPhrase, NoVersion, WrittenVersion, FilePhrase}
+use Rattle.pure_grammar.specs.Theories.PhraseText.{each, each_comma, name_text, ident_text, variable_text, type_text, sort_text, basic_text, method_text, step_text, end_text, proof_text, above_text, params_text, domains_text, item_text, axiom_text, and_axiom_text, have_text, command_text, imports_text, version_text, file_text}
+use Rattle.pure_grammar.specs.Theories.PhraseTree.{all_of, name_of, names_of, type_span, sort_of, basic_step, method_steps, step_steps, end_steps, steps_of, proof_steps, above_of, params_of, domains_of, item_command, axiom_command, have_of, phrase_commands, commands_of, with_text, mentions, imports_of, version_of, file_tree, IsCommandPhrase}
 use Rattle.pure_grammar.proofs.Distinct.{AreNew, distinct-new}
-use Rattle.pure_grammar.specs.Theories.Reader.{Header, State, InBody, AtStart, AfterImport, AtLast, Through, FactMethod, OfRule, OfErule, OfDrule, fact_step, AtStep, AtMethod, AtBasic, AfterBasic, AtFact, AtUnfolded, AfterUnfolded, Place, AtCommand, AfterClassName, AtAbove, AfterAbove, AtParams, AtParam, AfterParam, AtConstructor, AtDomains, AtSort, AfterSort, AtFirstClass, AfterClass, AtArityClass, AtItem, AtItemType, AfterItemType, AfterAxiomText, AtDefinitionType, AfterDefinitionType, InProof, command_begun, run}
+use Rattle.pure_grammar.specs.Theories.Reader.{Header, State, InBody, AtStart, AtTheoryName, AfterImport, AtLast, Through, FactMethod, OfRule, OfErule, OfDrule, fact_step, AtStep, AtMethod, AtBasic, AfterBasic, AtFact, AtUnfolded, AfterUnfolded, Place, AtCommand, AfterClassName, AtAbove, AfterAbove, AtParams, AtParam, AfterParam, AtConstructor, AtDomains, AtSort, AfterSort, AtFirstClass, AfterClass, AtArityClass, AtItem, AtItemType, AfterItemType, AfterAxiomText, AtDefinitionType, AfterDefinitionType, OpenLemma, with_have, Goal, OfLemma, OfHave, AtLemma, AtProof, InProof, command_begun, run}
 
 -- ---- lists of phrases
 pub run-each : {A B : Type 0} (text : A → List Lexeme → List Lexeme) (given : A → B) (s : List B → State)
@@ -131,78 +131,123 @@ run-definition_type h cs x (NamedType (Full text at)) r = refl
 run-definition_type h cs x (VariableType y) r = refl
 
 -- ---- proofs
-run-fact : (h : Header) (cs : List Command) (x : List ℕ) (p : Span) (script : List Step) (last : Bool) (m : FactMethod) (n : Name) (r : List Lexeme)
-    → run (InBody h cs (InProof x p script (AtFact last m))) (name_text n r) ≡ run (InBody h cs (InProof x p (script ++ fact_step m (name_of n) ∷ []) (AfterBasic last))) r
-run-fact h cs x p script last m (Simple text at) r = refl
-run-fact h cs x p script last m (Full text at) r = refl
+run-fact : (h : Header) (cs : List Command) (goal : Goal) (script : List Step) (last : Bool) (m : FactMethod) (n : Name) (r : List Lexeme)
+    → run (InBody h cs (InProof goal script (AtFact last m))) (name_text n r) ≡ run (InBody h cs (InProof goal (script ++ fact_step m (name_of n) ∷ []) (AfterBasic last))) r
+run-fact h cs goal script last m (Simple text at) r = refl
+run-fact h cs goal script last m (Full text at) r = refl
 
-run-unfolded : (h : Header) (cs : List Command) (x : List ℕ) (p : Span) (script : List Step) (last : Bool) (facts : List (List ℕ)) (n : Name) (r : List Lexeme)
-    → run (InBody h cs (InProof x p script (AfterUnfolded last facts))) (name_text n r) ≡ run (InBody h cs (InProof x p script (AfterUnfolded last (facts ++ name_of n ∷ [])))) r
-run-unfolded h cs x p script last facts (Simple text at) r = refl
-run-unfolded h cs x p script last facts (Full text at) r = refl
+run-unfolded : (h : Header) (cs : List Command) (goal : Goal) (script : List Step) (last : Bool) (facts : List (List ℕ)) (n : Name) (r : List Lexeme)
+    → run (InBody h cs (InProof goal script (AfterUnfolded last facts))) (name_text n r) ≡ run (InBody h cs (InProof goal script (AfterUnfolded last (facts ++ name_of n ∷ [])))) r
+run-unfolded h cs goal script last facts (Simple text at) r = refl
+run-unfolded h cs goal script last facts (Full text at) r = refl
 
-run-unfold : (h : Header) (cs : List Command) (x : List ℕ) (p : Span) (script : List Step) (last : Bool) (n : Name) (more : List Name) (r : List Lexeme)
-    → run (InBody h cs (InProof x p script (AtUnfolded last))) (name_text n (each name_text more r)) ≡ run (InBody h cs (InProof x p script (AfterUnfolded last (name_of n ∷ names_of more)))) r
-run-unfold h cs x p script last (Simple text at) more r = run-each name_text name_of (λ z. InBody h cs (InProof x p script (AfterUnfolded last z))) (run-unfolded h cs x p script last) (text ∷ []) more r
-run-unfold h cs x p script last (Full text at) more r = run-each name_text name_of (λ z. InBody h cs (InProof x p script (AfterUnfolded last z))) (run-unfolded h cs x p script last) (text ∷ []) more r
+run-unfold : (h : Header) (cs : List Command) (goal : Goal) (script : List Step) (last : Bool) (n : Name) (more : List Name) (r : List Lexeme)
+    → run (InBody h cs (InProof goal script (AtUnfolded last))) (name_text n (each name_text more r)) ≡ run (InBody h cs (InProof goal script (AfterUnfolded last (name_of n ∷ names_of more)))) r
+run-unfold h cs goal script last (Simple text at) more r = run-each name_text name_of (λ z. InBody h cs (InProof goal script (AfterUnfolded last z))) (run-unfolded h cs goal script last) (text ∷ []) more r
+run-unfold h cs goal script last (Full text at) more r = run-each name_text name_of (λ z. InBody h cs (InProof goal script (AfterUnfolded last z))) (run-unfolded h cs goal script last) (text ∷ []) more r
 
 -- a basic method, with the sign behind it
 data EndsBasic : List Lexeme → Type 0 where
   comma : (r : List Lexeme) → EndsBasic (Signed sign.Comma ∷ r)
   close : (r : List Lexeme) → EndsBasic (Signed sign.CloseParenthesis ∷ r)
 
-run-unfold_end : (h : Header) (cs : List Command) (x : List ℕ) (p : Span) (script : List Step) (last : Bool) (facts : List (List ℕ)) (r : List Lexeme) → EndsBasic r
-    → run (InBody h cs (InProof x p script (AfterUnfolded last facts))) r ≡ run (InBody h cs (InProof x p (script ++ tree.Unfold facts ∷ []) (AfterBasic last))) r
-run-unfold_end h cs x p script last facts r (comma r') = refl
-run-unfold_end h cs x p script true facts r (close r') = refl
-run-unfold_end h cs x p script false facts r (close r') = refl
+run-unfold_end : (h : Header) (cs : List Command) (goal : Goal) (script : List Step) (last : Bool) (facts : List (List ℕ)) (r : List Lexeme) → EndsBasic r
+    → run (InBody h cs (InProof goal script (AfterUnfolded last facts))) r ≡ run (InBody h cs (InProof goal (script ++ tree.Unfold facts ∷ []) (AfterBasic last))) r
+run-unfold_end h cs goal script last facts r (comma r') = refl
+run-unfold_end h cs (OfLemma m) script true facts r (close r') = refl
+run-unfold_end h cs (OfHave m x p) script true facts r (close r') = refl
+run-unfold_end h cs goal script false facts r (close r') = refl
 
-run-basic : (h : Header) (cs : List Command) (x : List ℕ) (p : Span) (script : List Step) (last : Bool) (b : BasicPhrase) (r : List Lexeme) → EndsBasic r
-    → run (InBody h cs (InProof x p script (AtBasic last))) (basic_text b r) ≡ run (InBody h cs (InProof x p (script ++ basic_step b ∷ []) (AfterBasic last))) r
-run-basic h cs x p script last (ByAssumption at) r e = refl
-run-basic h cs x p script last (ByRule at n) r e = run-fact h cs x p script last OfRule n r
-run-basic h cs x p script last (ByErule at n) r e = run-fact h cs x p script last OfErule n r
-run-basic h cs x p script last (ByDrule at n) r e = run-fact h cs x p script last OfDrule n r
-run-basic h cs x p script last (ByUnfold at n more) r e = run-unfold h cs x p script last n more r ∙ run-unfold_end h cs x p script last (name_of n ∷ names_of more) r e
+run-basic : (h : Header) (cs : List Command) (goal : Goal) (script : List Step) (last : Bool) (b : BasicPhrase) (r : List Lexeme) → EndsBasic r
+    → run (InBody h cs (InProof goal script (AtBasic last))) (basic_text b r) ≡ run (InBody h cs (InProof goal (script ++ basic_step b ∷ []) (AfterBasic last))) r
+run-basic h cs goal script last (ByAssumption at) r e = refl
+run-basic h cs goal script last (ByRule at n) r e = run-fact h cs goal script last OfRule n r
+run-basic h cs goal script last (ByErule at n) r e = run-fact h cs goal script last OfErule n r
+run-basic h cs goal script last (ByDrule at n) r e = run-fact h cs goal script last OfDrule n r
+run-basic h cs goal script last (ByUnfold at n more) r e = run-unfold h cs goal script last n more r ∙ run-unfold_end h cs goal script last (name_of n ∷ names_of more) r e
+
+-- behind a proof
+abbrev pub ended : Header → List Command → Goal → List Step → State
+ended h cs (OfLemma m) script = InBody h (cs ++ tree.Lemma m.name m.prop m.haves script ∷ []) AtCommand
+ended h cs (OfHave m x p) script = InBody h cs (AtProof (with_have m x p script))
 
 -- behind the method
-abbrev pub after : Header → List Command → List ℕ → Span → Bool → List Step → State
-after h cs x p true script = InBody h (cs ++ tree.Lemma x p [] (script ++ (tree.Close ∷ tree.Done ∷ [])) ∷ []) AtCommand
-after h cs x p false script = InBody h cs (InProof x p script AtStep)
+abbrev pub after : Header → List Command → Goal → Bool → List Step → State
+after h cs goal true script = ended h cs goal (script ++ (tree.Close ∷ tree.Done ∷ []))
+after h cs goal false script = InBody h cs (InProof goal script AtStep)
 
-run-basics : (h : Header) (cs : List Command) (x : List ℕ) (p : Span) (script : List Step) (last : Bool) (b : BasicPhrase) (bs : List BasicPhrase) (r : List Lexeme)
-    → run (InBody h cs (InProof x p script (AtBasic last))) (basic_text b (each_comma basic_text bs (Signed sign.CloseParenthesis ∷ r))) ≡ run (after h cs x p last (script ++ basic_step b ∷ map basic_step bs)) r
-run-basics h cs x p script true b [] r = run-basic h cs x p script true b (Signed sign.CloseParenthesis ∷ r) (close r)
-run-basics h cs x p script false b [] r = run-basic h cs x p script false b (Signed sign.CloseParenthesis ∷ r) (close r)
-run-basics h cs x p script last b (c ∷ bs) r =
-    run-basic h cs x p script last b (Signed sign.Comma ∷ basic_text c (each_comma basic_text bs (Signed sign.CloseParenthesis ∷ r))) (comma (basic_text c (each_comma basic_text bs (Signed sign.CloseParenthesis ∷ r))))
-    ∙ run-basics h cs x p (script ++ basic_step b ∷ []) last c bs r
-    ∙ ap (λ z. run (after h cs x p last z) r) (append_assoc script (basic_step b ∷ []) (basic_step c ∷ map basic_step bs))
+run-basics : (h : Header) (cs : List Command) (goal : Goal) (script : List Step) (last : Bool) (b : BasicPhrase) (bs : List BasicPhrase) (r : List Lexeme)
+    → run (InBody h cs (InProof goal script (AtBasic last))) (basic_text b (each_comma basic_text bs (Signed sign.CloseParenthesis ∷ r))) ≡ run (after h cs goal last (script ++ basic_step b ∷ map basic_step bs)) r
+run-basics h cs (OfLemma m) script true b [] r = run-basic h cs (OfLemma m) script true b (Signed sign.CloseParenthesis ∷ r) (close r)
+run-basics h cs (OfHave m x p) script true b [] r = run-basic h cs (OfHave m x p) script true b (Signed sign.CloseParenthesis ∷ r) (close r)
+run-basics h cs goal script false b [] r = run-basic h cs goal script false b (Signed sign.CloseParenthesis ∷ r) (close r)
+run-basics h cs goal script last b (c ∷ bs) r =
+    run-basic h cs goal script last b (Signed sign.Comma ∷ basic_text c (each_comma basic_text bs (Signed sign.CloseParenthesis ∷ r))) (comma (basic_text c (each_comma basic_text bs (Signed sign.CloseParenthesis ∷ r))))
+    ∙ run-basics h cs goal (script ++ basic_step b ∷ []) last c bs r
+    ∙ ap (λ z. run (after h cs goal last z) r) (append_assoc script (basic_step b ∷ []) (basic_step c ∷ map basic_step bs))
 
-run-method : (h : Header) (cs : List Command) (x : List ℕ) (p : Span) (script : List Step) (last : Bool) (m : MethodPhrase) (r : List Lexeme)
-    → run (InBody h cs (InProof x p script (AtMethod last))) (method_text m r) ≡ run (after h cs x p last (script ++ method_steps m)) r
-run-method h cs x p script true (Alone at) r = refl
-run-method h cs x p script false (Alone at) r = refl
-run-method h cs x p script last (Together b bs) r = run-basics h cs x p script last b bs r
+run-method : (h : Header) (cs : List Command) (goal : Goal) (script : List Step) (last : Bool) (m : MethodPhrase) (r : List Lexeme)
+    → run (InBody h cs (InProof goal script (AtMethod last))) (method_text m r) ≡ run (after h cs goal last (script ++ method_steps m)) r
+run-method h cs (OfLemma m) script true (Alone at) r = refl
+run-method h cs (OfHave m x p) script true (Alone at) r = refl
+run-method h cs goal script false (Alone at) r = refl
+run-method h cs goal script last (Together b bs) r = run-basics h cs goal script last b bs r
 
-run-step : (h : Header) (cs : List Command) (x : List ℕ) (p : Span) (script : List Step) (s : StepPhrase) (r : List Lexeme)
-    → run (InBody h cs (InProof x p script AtStep)) (step_text s r) ≡ run (InBody h cs (InProof x p (script ++ step_steps s) AtStep)) r
-run-step h cs x p script (ApplyStep m) r = run-method h cs x p script false m r
-run-step h cs x p script (PreferStep n) r = refl
-run-step h cs x p script DeferStep r = refl
+run-step : (h : Header) (cs : List Command) (goal : Goal) (script : List Step) (s : StepPhrase) (r : List Lexeme)
+    → run (InBody h cs (InProof goal script AtStep)) (step_text s r) ≡ run (InBody h cs (InProof goal (script ++ step_steps s) AtStep)) r
+run-step h cs goal script (ApplyStep m) r = run-method h cs goal script false m r
+run-step h cs goal script (PreferStep n) r = refl
+run-step h cs goal script DeferStep r = refl
 
-run-ending : (h : Header) (cs : List Command) (x : List ℕ) (p : Span) (script : List Step) (e : EndPhrase) (r : List Lexeme)
-    → run (InBody h cs (InProof x p script AtStep)) (end_text e r) ≡ run (InBody h (cs ++ tree.Lemma x p [] (script ++ end_steps e) ∷ []) AtCommand) r
-run-ending h cs x p script DoneEnd r = refl
-run-ending h cs x p script (ByEnd m) r =
-    run-method h cs x p script true m r
-    ∙ ap (λ z. run (InBody h (cs ++ tree.Lemma x p [] z ∷ []) AtCommand) r) (append_assoc script (method_steps m) (tree.Close ∷ tree.Done ∷ []))
+run-ending : (h : Header) (cs : List Command) (goal : Goal) (script : List Step) (e : EndPhrase) (r : List Lexeme)
+    → run (InBody h cs (InProof goal script AtStep)) (end_text e r) ≡ run (ended h cs goal (script ++ end_steps e)) r
+run-ending h cs (OfLemma m) script DoneEnd r = refl
+run-ending h cs (OfHave m x p) script DoneEnd r = refl
+run-ending h cs goal script (ByEnd m) r =
+    run-method h cs goal script true m r
+    ∙ ap (λ z. run (ended h cs goal z) r) (append_assoc script (method_steps m) (tree.Close ∷ tree.Done ∷ []))
 
-run-proof : (h : Header) (cs : List Command) (x : List ℕ) (p : Span) (proof : ProofPhrase) (r : List Lexeme)
-    → run (InBody h cs (InProof x p [] AtStep)) (proof_text proof r) ≡ run (InBody h (cs ++ tree.Lemma x p [] (proof_steps proof) ∷ []) AtCommand) r
-run-proof h cs x p proof r =
-    run-each_all step_text step_steps (λ z. InBody h cs (InProof x p z AtStep)) (run-step h cs x p) [] proof.steps (end_text proof.ending r)
-    ∙ run-ending h cs x p (steps_of proof.steps) proof.ending r
+run-proof : (h : Header) (cs : List Command) (goal : Goal) (proof : ProofPhrase) (r : List Lexeme)
+    → run (InBody h cs (InProof goal [] AtStep)) (proof_text proof r) ≡ run (ended h cs goal (proof_steps proof)) r
+run-proof h cs goal proof r =
+    run-each_all step_text step_steps (λ z. InBody h cs (InProof goal z AtStep)) (run-step h cs goal) [] proof.steps (end_text proof.ending r)
+    ∙ run-ending h cs goal (steps_of proof.steps) proof.ending r
+
+-- ---- lemmas
+-- the proof of a lemma begins where a have could
+run-own_proof : (h : Header) (cs : List Command) (m : OpenLemma) (steps : List StepPhrase) (e : EndPhrase) (r : List Lexeme)
+    → run (InBody h cs (AtProof m)) (each step_text steps (end_text e r)) ≡ run (InBody h cs (InProof (OfLemma m) [] AtStep)) (each step_text steps (end_text e r))
+run-own_proof h cs m [] DoneEnd r = refl
+run-own_proof h cs m [] (ByEnd y) r = refl
+run-own_proof h cs m (ApplyStep y ∷ steps) e r = refl
+run-own_proof h cs m (PreferStep n ∷ steps) e r = refl
+run-own_proof h cs m (DeferStep ∷ steps) e r = refl
+
+-- behind the statement of a lemma and these haves
+abbrev pub open_lemma : List ℕ → Span → List Have → OpenLemma
+open_lemma x p haves = record { name = x; prop = p; haves = haves }
+
+run-have : (h : Header) (cs : List Command) (x : List ℕ) (p : Span) → h.version == 1 ≡ false → (before : List Have) (y : HavePhrase) (r : List Lexeme)
+    → run (InBody h cs (AtProof (open_lemma x p before))) (have_text y r) ≡ run (InBody h cs (AtProof (open_lemma x p (before ++ have_of y ∷ [])))) r
+run-have h cs x p later before y r = rw later (run-proof h cs (OfHave (open_lemma x p before) y.statement.name.text y.statement.prop) y.proof r)
+
+not-empty : {A : Type 0} (x : A) (xs : List A) → x ∷ xs ≡ [] → ⊥
+not-empty x xs e = cc
+
+run-haves : (h : Header) (cs : List Command) (x : List ℕ) (p : Span) (haves : List HavePhrase) (r : List Lexeme) → (h.version ≡ 1 → haves ≡ [])
+    → run (InBody h cs (AtProof (open_lemma x p []))) (each have_text haves r) ≡ run (InBody h cs (AtProof (open_lemma x p (map have_of haves)))) r
+run-haves h cs x p [] r w = refl
+run-haves h cs x p (y ∷ ys) r w =
+    let later : h.version == 1 ≡ false = ne_eqb h.version 1 (λ e. not-empty y ys (w e)) in
+    run-each have_text have_of (λ z. InBody h cs (AtProof (open_lemma x p z))) (run-have h cs x p later) [] (y ∷ ys) r
+
+run-lemma : (h : Header) (cs : List Command) (a : AxiomPhrase) (haves : List HavePhrase) (proof : ProofPhrase) (r : List Lexeme) → (h.version ≡ 1 → haves ≡ [])
+    → run (InBody h cs AtLemma) (axiom_text a (each have_text haves (proof_text proof r))) ≡ run (InBody h (cs ++ tree.Lemma a.name.text a.prop (map have_of haves) (proof_steps proof) ∷ []) AtCommand) r
+run-lemma h cs a haves proof r w =
+    let m : OpenLemma = open_lemma a.name.text a.prop (map have_of haves) in
+    run-haves h cs a.name.text a.prop haves (proof_text proof r) w
+    ∙ run-own_proof h cs m proof.steps proof.ending r
+    ∙ run-proof h cs (OfLemma m) proof r
 
 -- ---- commands
 -- a command begins, or the end
@@ -236,7 +281,7 @@ run-class_above h cs x (Above c more) r b =
     ∙ run-each name_text name_of (λ z. InBody h cs (AfterAbove x z)) (run-above h cs x) (name_of c ∷ []) more r
     ∙ leave-above h cs x (name_of c ∷ names_of more) r b
 
-pub run-command : (h : Header) (cs : List Command) (c : CommandPhrase) (r : List Lexeme) → IsCommandPhrase c → IsBegun r
+pub run-command : (h : Header) (cs : List Command) (c : CommandPhrase) (r : List Lexeme) → IsCommandPhrase h.version c → IsBegun r
     → run (InBody h cs AtCommand) (command_text c r) ≡ run (InBody h (cs ++ phrase_commands c) AtCommand) r
 run-command h cs (ClassCommand x above) r w b = run-class_above h cs x.text above r b
 run-command h cs (TypedeclCommand params x) r w b = run-typedecl h cs params x r (distinct-new (params_of params) w)
@@ -251,8 +296,8 @@ run-command h cs (AxiomsCommand a more) r w b =
     ∙ leave-axioms h ((cs ++ axiom_command a ∷ []) ++ map axiom_command more) r b
     ∙ ap (λ z. run (InBody h z AtCommand) r) (append_assoc cs (axiom_command a ∷ []) (map axiom_command more))
 run-command h cs (DefinitionCommand i prop) r w b = run-definition_type h cs i.name.text i.typ (Reserved keyword.Where ∷ Quoted prop ∷ r)
-run-command h cs (LemmaCommand LemmaWritten a p) r w b = run-proof h cs a.name.text a.prop p r
-run-command h cs (LemmaCommand TheoremWritten a p) r w b = run-proof h cs a.name.text a.prop p r
+run-command h cs (LemmaCommand LemmaWritten a haves p) r w b = run-lemma h cs a haves p r w
+run-command h cs (LemmaCommand TheoremWritten a haves p) r w b = run-lemma h cs a haves p r w
 
 begun : (cs : List CommandPhrase) → IsBegun (each command_text cs (Reserved keyword.End ∷ Ends ∷ []))
 begun [] = record { word = keyword.End; behind = _; place = _; is = refl; begun = refl; no_and = refl }
@@ -262,32 +307,38 @@ begun (AritiesCommand con doms class ∷ cs) = record { word = keyword.Arities; 
 begun (ConstsCommand i is ∷ cs) = record { word = keyword.Consts; behind = _; place = _; is = refl; begun = refl; no_and = refl }
 begun (AxiomsCommand a more ∷ cs) = record { word = keyword.Axiomatization; behind = _; place = _; is = refl; begun = refl; no_and = refl }
 begun (DefinitionCommand i prop ∷ cs) = record { word = keyword.Definition; behind = _; place = _; is = refl; begun = refl; no_and = refl }
-begun (LemmaCommand LemmaWritten a p ∷ cs) = record { word = keyword.Lemma; behind = _; place = _; is = refl; begun = refl; no_and = refl }
-begun (LemmaCommand TheoremWritten a p ∷ cs) = record { word = keyword.Theorem; behind = _; place = _; is = refl; begun = refl; no_and = refl }
+begun (LemmaCommand LemmaWritten a haves p ∷ cs) = record { word = keyword.Lemma; behind = _; place = _; is = refl; begun = refl; no_and = refl }
+begun (LemmaCommand TheoremWritten a haves p ∷ cs) = record { word = keyword.Theorem; behind = _; place = _; is = refl; begun = refl; no_and = refl }
 
-run-commands : (h : Header) (before : List Command) (cs : List CommandPhrase) → AllByRecursion IsCommandPhrase cs
+run-commands : (h : Header) (before : List Command) (cs : List CommandPhrase) → AllByRecursion (IsCommandPhrase h.version) cs
     → run (InBody h before AtCommand) (each command_text cs (Reserved keyword.End ∷ Ends ∷ []))
-    ≡ Through (AtLast (record { version = 1; name = h.name; imports = h.imports; commands = before ++ commands_of cs }))
-run-commands h before [] w = ap (λ z. Through (AtLast (record { version = 1; name = h.name; imports = h.imports; commands = z }))) (sym (append-nil before))
+    ≡ Through (AtLast (record { version = h.version; name = h.name; imports = h.imports; commands = before ++ commands_of cs }))
+run-commands h before [] w = ap (λ z. Through (AtLast (record { version = h.version; name = h.name; imports = h.imports; commands = z }))) (sym (append-nil before))
 run-commands h before (c ∷ cs) w =
     run-command h before c (each command_text cs (Reserved keyword.End ∷ Ends ∷ [])) w.0 (begun cs)
     ∙ run-commands h (before ++ phrase_commands c) cs w.1
-    ∙ ap (λ z. Through (AtLast (record { version = 1; name = h.name; imports = h.imports; commands = z }))) (append_assoc before (phrase_commands c) (commands_of cs))
+    ∙ ap (λ z. Through (AtLast (record { version = h.version; name = h.name; imports = h.imports; commands = z }))) (append_assoc before (phrase_commands c) (commands_of cs))
 
 -- ---- files
-run-imports : (x : List ℕ) (known : List (List ℕ)) (xs : List Ident) (r : List Lexeme)
-    → run (AfterImport (record { name = x; imports = known })) (each ident_text xs r) ≡ run (AfterImport (record { name = x; imports = mentions known xs })) r
-run-imports x known [] r = refl
-run-imports x known (y ∷ ys) r = run-imports x (with_text known y.text) ys r
+run-imports : (v : ℕ) (x : List ℕ) (known : List (List ℕ)) (xs : List Ident) (r : List Lexeme)
+    → run (AfterImport (record { version = v; name = x; imports = known })) (each ident_text xs r) ≡ run (AfterImport (record { version = v; name = x; imports = mentions known xs })) r
+run-imports v x known [] r = refl
+run-imports v x known (y ∷ ys) r = run-imports v x (with_text known y.text) ys r
 
-run-file : (x : Ident) (imports : ImportsPhrase) (cs : List CommandPhrase) → AllByRecursion IsCommandPhrase cs
-    → run AtStart (file_text (record { name = x; imports = imports; commands = cs }))
-    ≡ Through (AtLast (record { version = 1; name = x.text; imports = imports_of imports; commands = commands_of cs }))
-run-file x NoImport cs w = run-commands (record { name = x.text; imports = imports_of NoImport }) [] cs w
-run-file x (Imports i is) cs w =
-    run-imports x.text (i.text ∷ []) is (Reserved keyword.Begin ∷ each command_text cs (Reserved keyword.End ∷ Ends ∷ []))
-    ∙ run-commands (record { name = x.text; imports = mentions (i.text ∷ []) is }) [] cs w
+run-theory : (v : ℕ) (x : Ident) (imports : ImportsPhrase) (cs : List CommandPhrase) → AllByRecursion (IsCommandPhrase v) cs
+    → run (AtTheoryName v) (ident_text x (imports_text imports (Reserved keyword.Begin ∷ each command_text cs (Reserved keyword.End ∷ Ends ∷ []))))
+    ≡ Through (AtLast (record { version = v; name = x.text; imports = imports_of imports; commands = commands_of cs }))
+run-theory v x NoImport cs w = run-commands (record { version = v; name = x.text; imports = imports_of NoImport }) [] cs w
+run-theory v x (Imports i is) cs w =
+    run-imports v x.text (i.text ∷ []) is (Reserved keyword.Begin ∷ each command_text cs (Reserved keyword.End ∷ Ends ∷ []))
+    ∙ run-commands (record { version = v; name = x.text; imports = mentions (i.text ∷ []) is }) [] cs w
+
+run-version : (v : VersionPhrase) (r : List Lexeme) → run AtStart (version_text v (Reserved keyword.Theory ∷ r)) ≡ run (AtTheoryName (version_of v)) r
+run-version NoVersion r = refl
+run-version (WrittenVersion n) r = refl
 
 -- the reader reads the text of each file
-pub run-file_text : (f : FilePhrase) → AllByRecursion IsCommandPhrase f.commands → run AtStart (file_text f) ≡ Through (AtLast (file_tree f))
-run-file_text f w = run-file f.name f.imports f.commands w
+pub run-file_text : (f : FilePhrase) → AllByRecursion (IsCommandPhrase (version_of f.version)) f.commands → run AtStart (file_text f) ≡ Through (AtLast (file_tree f))
+run-file_text f w =
+    run-version f.version (ident_text f.name (imports_text f.imports (Reserved keyword.Begin ∷ each command_text f.commands (Reserved keyword.End ∷ Ends ∷ []))))
+    ∙ run-theory (version_of f.version) f.name f.imports f.commands w

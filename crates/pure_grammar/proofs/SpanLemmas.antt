@@ -1,5 +1,6 @@
 -- The ranges in the tree of a theory are those of its tokens.
 use Rattle.std.proofs.Common.{◌≡◌, ◌⊎◌, ℕ, ◌+◌, ◌-◌, ◌≤◌, List, [], ◌∷◌, ◌++◌, map, length, inl, inr, refl, sym, ◌∙◌, ap, subst, arith, append_assoc}
+use Rattle.std.proofs.lemmas.List.{append-nil}
 use Rattle.std.specs.Prelude.{slice_range, codes, Option, Some, None}
 use Rattle.pure_text.specs.Lists.{IsIn, Each, AnyOf}
 use Rattle.pure_text.proofs.ListLaws.{any_of}
@@ -9,11 +10,11 @@ use Rattle.pure_grammar.specs.declared.token.TokenKind.TheVariants as kind
 use Rattle.pure_grammar.specs.declared.lexeme.Keyword.TheVariants as keyword
 use Rattle.pure_grammar.specs.declared.lexeme.Sign.TheVariants as sign
 use Rattle.pure_grammar.specs.Tokens.Spelling.{IsSlice, AreSlices}
-use Rattle.pure_grammar.specs.Theories.TheoryText.{Span, Command, TheoryText}
+use Rattle.pure_grammar.specs.Theories.TheoryText.{Span, Have, Command, TheoryText}
 use Rattle.pure_grammar.specs.Theories.Lexeme.{Lexeme, Reserved, Signed, Plain, Dotted, Variable, Numeral, Quoted, Other, Ends, proof_lexeme, command_lexeme, word_lexeme, symbol_lexeme, lexeme_of, lexeme, lexemes, quote_in, type_in}
-use Rattle.pure_grammar.specs.Theories.Phrase.{Ident, Name, Simple, Full, TypeVariable, TypePhrase, QuotedType, NamedType, VariableType, SortPhrase, OneClass, NoClass, Classes, BasicPhrase, ByAssumption, ByRule, ByErule, ByDrule, ByUnfold, MethodPhrase, Alone, Together, StepPhrase, ApplyStep, PreferStep, DeferStep, EndPhrase, DoneEnd, ByEnd, ProofPhrase, AbovePhrase, NoneAbove, Above, ParamsPhrase, NoParam, OneParam, Params, DomainsPhrase, NoDomain, Domains, ItemPhrase, AxiomPhrase, LemmaWord, LemmaWritten, TheoremWritten, CommandPhrase, ClassCommand, TypedeclCommand, AritiesCommand, ConstsCommand, AxiomsCommand, DefinitionCommand, LemmaCommand, ImportsPhrase, NoImport, Imports, FilePhrase}
-use Rattle.pure_grammar.specs.Theories.PhraseText.{each, each_comma, ident_text, name_text, variable_text, type_text, sort_text, basic_text, method_text, step_text, end_text, proof_text, above_text, params_text, domains_text, item_text, axiom_text, and_axiom_text, lemma_word_text, command_text, imports_text, file_text}
-use Rattle.pure_grammar.specs.Theories.PhraseTree.{all_of, type_span, item_command, axiom_command, phrase_commands, commands_of}
+use Rattle.pure_grammar.specs.Theories.Phrase.{Ident, Name, Simple, Full, TypeVariable, TypePhrase, QuotedType, NamedType, VariableType, SortPhrase, OneClass, NoClass, Classes, BasicPhrase, ByAssumption, ByRule, ByErule, ByDrule, ByUnfold, MethodPhrase, Alone, Together, StepPhrase, ApplyStep, PreferStep, DeferStep, EndPhrase, DoneEnd, ByEnd, ProofPhrase, AbovePhrase, NoneAbove, Above, ParamsPhrase, NoParam, OneParam, Params, DomainsPhrase, NoDomain, Domains, ItemPhrase, AxiomPhrase, LemmaWord, LemmaWritten, TheoremWritten, HavePhrase, CommandPhrase, ClassCommand, TypedeclCommand, AritiesCommand, ConstsCommand, AxiomsCommand, DefinitionCommand, LemmaCommand, ImportsPhrase, NoImport, Imports, NoVersion, WrittenVersion, FilePhrase}
+use Rattle.pure_grammar.specs.Theories.PhraseText.{each, each_comma, ident_text, name_text, variable_text, type_text, sort_text, basic_text, method_text, step_text, end_text, proof_text, above_text, params_text, domains_text, item_text, axiom_text, and_axiom_text, lemma_word_text, have_text, command_text, imports_text, version_text, file_text}
+use Rattle.pure_grammar.specs.Theories.PhraseTree.{all_of, type_span, item_command, axiom_command, have_of, phrase_commands, commands_of}
 use Rattle.pure_grammar.specs.Theories.Outer.{SpellsTheory}
 use Rattle.pure_grammar.specs.Theories.Spans.{Cited, OfType, OfProp, cited_span, command_spans, theory_spans, IsInside, IsWhole, Cites, CiteEach, LieBetween, SpansInOrder, IsCited, EachSpanIsCited}
 use Rattle.pure_grammar.proofs.Beside.{beside, beside-has}
@@ -112,6 +113,10 @@ imports-pass : Passes imports_text
 imports-pass NoImport r cs h = h
 imports-pass (Imports x more) r cs h = past (ident-pass x _ cs (each-pass ident_text ident-pass more r cs h))
 
+version-pass : Passes version_text
+version-pass NoVersion r cs h = h
+version-pass (WrittenVersion n) r cs h = past (past h)
+
 -- ---- the phrases with ranges
 
 type-holds : (t : TypePhrase) (r : List Lexeme) (cs : List Cited) → Held r cs → Held (type_text t r) (OfType (type_span t) ∷ cs)
@@ -138,6 +143,16 @@ lemma-holds : (word : LemmaWord) (a : AxiomPhrase) (r : List Lexeme) (cs : List 
 lemma-holds LemmaWritten a r cs h = past (axiom-holds a r cs h)
 lemma-holds TheoremWritten a r cs h = past (axiom-holds a r cs h)
 
+haves-hold : (haves : List HavePhrase) (r : List Lexeme) (cs : List Cited) → Held r cs → Held (each have_text haves r) (map (λ (h : Have). OfProp h.prop) (map have_of haves) ++ cs)
+haves-hold [] r cs h = h
+haves-hold (y ∷ more) r cs h =
+    let behind : List Cited = map (λ (h : Have). OfProp h.prop) (map have_of more) ++ cs in
+    past (axiom-holds y.statement (proof_text y.proof (each have_text more r)) behind (proof-pass y.proof (each have_text more r) behind (haves-hold more r cs h)))
+
+-- a list of one list, and what is behind it
+one-list : {A : Type 0} (xs ys : List A) → (xs ++ []) ++ ys ≡ xs ++ ys
+one-list xs ys = ap (λ z. z ++ ys) (append-nil xs)
+
 command-holds : (p : CommandPhrase) (r : List Lexeme) (cs : List Cited) → Held r cs → Held (command_text p r) (all_of command_spans (phrase_commands p) ++ cs)
 command-holds (ClassCommand x above) r cs h = past (ident-pass x _ cs (above-pass above r cs h))
 command-holds (TypedeclCommand params x) r cs h = past (params-pass params _ cs (ident-pass x r cs h))
@@ -145,7 +160,11 @@ command-holds (AritiesCommand con doms class) r cs h = past (name-pass con _ cs 
 command-holds (ConstsCommand i is) r cs h = past (item-holds i (each item_text is r) (all_of command_spans (map item_command is) ++ cs) (items-hold is r cs h))
 command-holds (AxiomsCommand a more) r cs h = past (past (axiom-holds a (each and_axiom_text more r) (all_of command_spans (map axiom_command more) ++ cs) (axioms-hold more r cs h)))
 command-holds (DefinitionCommand i prop) r cs h = past (item-holds i (Reserved keyword.Where ∷ Quoted prop ∷ r) (OfProp prop ∷ cs) (past (here refl h)))
-command-holds (LemmaCommand word a p) r cs h = lemma-holds word a (proof_text p r) cs (proof-pass p r cs h)
+command-holds (LemmaCommand word a haves p) r cs h =
+    let behind : List Cited = map (λ (h : Have). OfProp h.prop) (map have_of haves) ++ cs in
+    subst (Held (lemma_word_text word (axiom_text a (each have_text haves (proof_text p r)))))
+    (ap (λ z. OfProp a.prop ∷ z) (sym (one-list (map (λ (h : Have). OfProp h.prop) (map have_of haves)) cs)))
+    (lemma-holds word a (each have_text haves (proof_text p r)) behind (haves-hold haves (proof_text p r) cs (proof-pass p r cs h)))
 
 all_of-append : {A B : Type 0} (given : A → List B) (xs ys : List A) → all_of given (xs ++ ys) ≡ all_of given xs ++ all_of given ys
 all_of-append given [] ys = refl
@@ -164,7 +183,7 @@ commands-hold (p ∷ ps) r =
 file-holds : (f : FilePhrase) → Held (file_text f) (all_of command_spans (commands_of f.commands))
 file-holds f =
     let cs : List Cited = all_of command_spans (commands_of f.commands) in
-    past (ident-pass f.name _ cs (imports-pass f.imports _ cs (past (commands-hold f.commands (Reserved keyword.End ∷ Ends ∷ [])))))
+    version-pass f.version _ cs (past (ident-pass f.name _ cs (imports-pass f.imports _ cs (past (commands-hold f.commands (Reserved keyword.End ∷ Ends ∷ []))))))
 
 -- ---- tokens
 

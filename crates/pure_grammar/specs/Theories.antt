@@ -7,3 +7,5 @@ pub mod PhraseTree
 pub mod Outer
 pub mod Spans
 pub mod Reader
+pub mod First
+pub mod Versions

@@ -2,6 +2,7 @@
 ghost use Rattle.pure_grammar.specs.Terms.Inner.{OneTerm, OneType};
 ghost use Rattle.pure_grammar.specs.Theories.Outer.{OneTheory};
 ghost use Rattle.pure_grammar.specs.Theories.Spans.{SpansInOrder, EachSpanIsCited};
+ghost use Rattle.pure_grammar.specs.Theories.Versions.{ReadAsFirst, FaultsAsFirst};
 ghost use Rattle.pure_grammar.specs.Terms.RawTexts.{TermIsWritten, TypeIsWritten};
 ghost use Rattle.pure_grammar.specs.Tokens.Spelling.{OneList, ListOrFault, OneFault, QuoteHasMarks, TokensAreSlices};
 
@@ -64,4 +65,14 @@ pub fn term_is_written()
 /// Each name and variable in the tree of a type is the text of a token of its kind, but for the name of functions.
 pub fn type_is_written()
     ensures { TypeIsWritten }
+{}
+
+/// Tokens without the word `version` spell the trees that the grammar of version 1 gives them.
+pub fn read_as_first()
+    ensures { ReadAsFirst }
+{}
+
+/// The first fault of tokens without the word `version` is that of the grammar of version 1.
+pub fn faults_as_first()
+    ensures { FaultsAsFirst }
 {}

@@ -1,17 +1,13 @@
 -- Some files have one session.
-use Rattle.std.proofs.Common.{◌≡◌, ◌⊎◌, ◌<◌, ◌≤◌, ◌+◌, inl, inr, ℕ, zero, suc, Bool, true, false, List, [], ◌∷◌, ◌++◌, length, map, refl, sym, ◌∙◌, ap, subst, arith, Option, Some, None, nat_lt}
-use Rattle.std.specs.declared.cmp.Ordering.{Ordering}
+use Rattle.std.proofs.Common.{◌≡◌, ◌⊎◌, ◌<◌, ◌≤◌, ◌+◌, inl, inr, ℕ, Bool, true, false, List, [], ◌∷◌, ◌++◌, length, map, refl, sym, ◌∙◌, ap, subst, arith, Option, Some, None, nat_lt}
 use Rattle.std.specs.declared.cmp.Ordering.TheVariants.{Less}
 use Rattle.std.specs.List.{filter_map, AllByRecursion}
 use Rattle.std.specs.List.Sorted.{IsStrictlySortedBy}
-use Rattle.std.specs.Ordering.{nat_cmp, ordering_reverse}
-use Rattle.std.specs.Cmp.Lexicographic.{slice_cmp, nat_list_cmp_total}
+use Rattle.std.specs.Ordering.{ordering_reverse}
+use Rattle.std.specs.Cmp.Lexicographic.{nat_list_cmp_total}
 use Rattle.std.proofs.lemmas.Map.Keys.{sorted_head, sorted_tail}
-use Rattle.pure_text.specs.Lists.{IsIn, Each, EachTwo, AnyOf}
-use Rattle.pure_text.proofs.ListLaws.{each_at}
+use Rattle.pure_text.specs.Lists.{IsIn, Each, EachTwo}
 use Rattle.pure_text.proofs.AscendingTexts.{byte_order, ascending_once}
-use Rattle.pure_grammar.specs.Tokens.Spelling.{Spells, HasFault}
-use Rattle.pure_grammar.specs.declared.token.Token.{Token}
 use Rattle.pure_grammar.specs.Theories.TheoryText.{TheoryText}
 use Rattle.pure_grammar.specs.Theories.Outer.{SpellsTheory, HasSyntaxFault}
 use Rattle.pure_grammar.proofs.Readings.{one_list, list_or_fault, one_fault}
@@ -21,9 +17,9 @@ use Rattle.pure_io.specs.declared.library.File as library
 use Rattle.pure_graph.specs.Limits.{most_files, most_bytes}
 use Rattle.pure_graph.specs.Outcome.{Outcome, Refused, Stands, IsTheoryText, IsFaultPlace, IsSourceOutcome, IsBytesOutcome, IsOwnOutcome, syntax_at, tree_outcome}
 use Rattle.pure_graph.specs.Reading.{Answer, File, IsTried, AreReadFrom, counted, file_parts}
-use Rattle.pure_graph.specs.Graph.{IsRefused, IsFirstRefused, IsStandingJudged, IsOutcomeJudged, AreJudged, linked, named_imports, IsCyclic}
-use Rattle.pure_graph.specs.Order.{Loaded, IsReady, IsLeastReady, AreTakenBehind, file_of, index_among}
-use Rattle.pure_graph.specs.Session.{Session, IsSessionOf, IsSession, refusal_of, answer_in}
+use Rattle.pure_graph.specs.Graph.{IsRefused, IsStandingJudged, IsOutcomeJudged, AreJudged, linked, named_imports}
+use Rattle.pure_graph.specs.Order.{Loaded, AreTakenBehind, file_of, index_among}
+use Rattle.pure_graph.specs.Session.{Session, IsSessionOf, refusal_of, answer_in}
 use Rattle.pure_graph.specs.SessionNames.{AreNames}
 use Rattle.pure_graph.specs.Laws.{OneSession}
 use Rattle.pure_graph.specs.declared.outcome.Reason.TheVariants.{ParentRefused}

@@ -1,3 +1,4 @@
+pub mod LimitLemmas
 pub mod HeaderLemmas
 pub mod SumLemmas
 pub mod ListingLemmas
@@ -5,4 +6,6 @@ pub mod SourceLemmas
 pub mod FilesLemmas
 pub mod Ascending
 pub mod LawsLemmas
+pub mod FirstLemmas
+pub mod VersionLemmas
 pub mod DraftLemmas

@@ -12,9 +12,10 @@ within : (m n : ℕ) → n ≤ m → nat_le n m ≡ true
 within m n h = grind (arith, nat_tests)
 
 -- there is room for so many, or there isn't
-pub room-or-not : (found : Option ℕ) (most sum : ℕ) → MatchOption found (most < sum) (λ s. (s ≡ sum) × (s ≤ most)) → MatchOption found (nat_le sum most ≡ false) (λ s. (nat_le sum most ≡ true) × (s ≡ sum) × (s ≤ most))
-room-or-not None most sum h = past most sum h
-room-or-not (Some s) most sum (is, few) = (within most sum (omega (arith, is, few)), is, few)
+pub room-or-not : (found : Option ℕ) (most bound sum : ℕ) → most ≤ bound → MatchOption found (most < sum) (λ s. (s ≡ sum) × (s ≤ most))
+    → MatchOption found (nat_le sum most ≡ false) (λ s. (nat_le sum most ≡ true) × (s ≡ sum) × (s ≤ bound))
+room-or-not None most bound sum under h = past most sum h
+room-or-not (Some s) most bound sum under (is, few) = (within most sum (omega (arith, is, few)), is, omega (arith, under, few))
 
 pub counted-past : (before : ℕ) (outcome : Outcome) → fits before outcome ≡ false → Refused TooLarge ≡ counted before outcome
 counted-past before outcome h = rw h refl

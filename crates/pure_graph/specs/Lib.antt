@@ -10,4 +10,5 @@ pub mod Seen
 pub mod Told
 pub mod Drafts
 pub mod Parsed
+pub mod First
 pub mod Laws

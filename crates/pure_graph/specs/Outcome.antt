@@ -1,5 +1,5 @@
 -- What the file of a theory says by itself.
-use Rattle.std.specs.Prelude.{◌≡◌, ◌⊎◌, ℕ, ◌+◌, ◌<◌, ◌≤◌, Bool, true, false, not, ◌&&◌, ◌||◌, List, length, take, codes, count_by, nat_lt, Option, Some, None, if◌then◌else◌}
+use Rattle.std.specs.Prelude.{◌≡◌, ◌⊎◌, ℕ, ◌+◌, ◌<◌, ◌≤◌, Bool, true, false, not, ◌&&◌, ◌||◌, List, length, take, codes, count_by, nat_eq, nat_lt, Option, Some, None, if◌then◌else◌}
 use Rattle.std.specs.List.{list_any, sum_by}
 use Rattle.pure_grammar.specs.declared.token.Token.{Token}
 use Rattle.pure_grammar.specs.declared.token.TokenKind.{TokenKind}
@@ -10,7 +10,7 @@ use Rattle.pure_grammar.specs.Theories.TheoryText.{Step, Close, Have, Command, L
 use Rattle.pure_lex.specs.Lines.{line_behind, column_behind}
 use Rattle.pure_graph.specs.Limits.{most_bytes, most_parts, most_steps}
 use Rattle.pure_graph.specs.declared.outcome.Reason.{Reason}
-use Rattle.pure_graph.specs.declared.outcome.Reason.TheVariants.{NoFile, TooLarge, Syntax, HeaderName}
+use Rattle.pure_graph.specs.declared.outcome.Reason.TheVariants.{NoFile, TooLarge, Syntax, UnknownVersion, HeaderName}
 
 -- A file is refused, or it stands: its bytes, and the tree that they spell.
 pub data Outcome : Type 0 where
@@ -55,9 +55,13 @@ command_parts _ = 1
 abbrev pub part_count : List Command → ℕ
 part_count commands = sum_by command_parts commands
 
--- more parts than a theory may have, or a proof that is too long
+-- more parts than a theory of its version may have, or a proof that is too long
 abbrev pub is_large : TheoryText → Bool
-is_large text = nat_lt most_parts (part_count text.commands) || list_any has_long_proof text.commands
+is_large text = nat_lt (most_parts text.version) (part_count text.commands) || list_any has_long_proof text.commands
+
+-- the versions are 1 and 2
+abbrev pub is_known_version : (version : ℕ) → Bool
+is_known_version version = nat_eq version 1 || nat_eq version 2
 
 unfoldable pub pure_theory : List ℕ
 pure_theory = codes "Pure"
@@ -66,10 +70,14 @@ pure_theory = codes "Pure"
 abbrev pub is_headed : List ℕ → TheoryText → Bool
 is_headed theory text = same text.name theory && not (same text.name pure_theory)
 
+-- what the tree of a theory's file says, where its version is known
+abbrev pub known_outcome : (theory source : List ℕ) → TheoryText → Outcome
+known_outcome theory source text =
+    if is_headed theory text then (if is_large text then Refused TooLarge else Stands source text) else Refused HeaderName
+
 -- what the tree of a theory's file says
 abbrev pub tree_outcome : (theory source : List ℕ) → TheoryText → Outcome
-tree_outcome theory source text =
-    if is_headed theory text then (if is_large text then Refused TooLarge else Stands source text) else Refused HeaderName
+tree_outcome theory source text = if is_known_version text.version then known_outcome theory source text else Refused UnknownVersion
 
 -- what the bytes of a theory's file say, where they aren't too many
 abbrev pub IsSourceOutcome : (theory source : List ℕ) → Outcome → Type 0

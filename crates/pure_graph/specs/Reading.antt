@@ -19,10 +19,10 @@ abbrev pub IsTried : (is_read : Bool) → Answer → Outcome → Type 0
 IsTried true answer outcome = IsOwnOutcome answer.theory answer.bytes outcome
 IsTried false answer outcome = outcome ≡ Refused TooManyFiles
 
--- Behind files with so many parts there is room for those of the file.
+-- Behind files with so many parts there is room for those of the file, by the limit of its version.
 abbrev pub fits : (before : ℕ) → Outcome → Bool
 fits before (Refused reason) = true
-fits before (Stands source text) = nat_le (before + part_count text.commands) most_session_parts
+fits before (Stands source text) = nat_le (before + part_count text.commands) (most_session_parts text.version)
 
 -- a file behind others with so many parts: with its own they may be too many
 abbrev pub counted : (before : ℕ) → Outcome → Outcome

@@ -1,5 +1,5 @@
 -- The session of a library: its theories in load order, the files that are refused, and its names.
-use Rattle.std.specs.Prelude.{◌≡◌, ℕ, List, [], ◌∷◌, ◌++◌, length, map, codes, Option, Some, None}
+use Rattle.std.specs.Prelude.{◌≡◌, ℕ, List, ◌∷◌, ◌++◌, length, map, codes, Option, Some, None}
 use Rattle.std.specs.List.{filter_map}
 use Rattle.std.specs.Fmt.{decimal}
 use Rattle.pure_io.specs.declared.library.File as library
@@ -11,7 +11,7 @@ use Rattle.pure_graph.specs.Graph.{linked, AreJudged}
 use Rattle.pure_graph.specs.Order.{Loaded, AreInLoadOrder}
 use Rattle.pure_graph.specs.SessionNames.{AreNames}
 use Rattle.pure_graph.specs.declared.outcome.Reason.{Reason}
-use Rattle.pure_graph.specs.declared.outcome.Reason.TheVariants.{TooManyFiles, NoFile, TooLarge, Syntax, HeaderName, CyclicImports, ParentRefused}
+use Rattle.pure_graph.specs.declared.outcome.Reason.TheVariants.{TooManyFiles, NoFile, TooLarge, Syntax, UnknownVersion, HeaderName, CyclicImports, ParentRefused}
 
 -- a file that is refused in loading, and why
 pub record Refusal : Type 0 where
@@ -41,6 +41,9 @@ too_large_text = codes "too large"
 unfoldable pub syntax_text : List ℕ
 syntax_text = codes "syntax at "
 
+unfoldable pub unknown_version_text : List ℕ
+unknown_version_text = codes "unknown version"
+
 unfoldable pub header_name_text : List ℕ
 header_name_text = codes "header name"
 
@@ -56,6 +59,7 @@ reason_text TooManyFiles = too_many_files_text
 reason_text (NoFile theory) = no_file_text ++ theory
 reason_text TooLarge = too_large_text
 reason_text (Syntax line column) = syntax_text ++ (decimal line ++ (58 ∷ decimal column))
+reason_text UnknownVersion = unknown_version_text
 reason_text HeaderName = header_name_text
 reason_text CyclicImports = cyclic_imports_text
 reason_text (ParentRefused theory) = parent_refused_text ++ theory

@@ -2,7 +2,7 @@
 ghost use Rattle.std.specs.Prelude.{◌≡◌, ℕ, ◌+◌, ◌^◌, ◌<◌, ◌≤◌, List, Option, length, map, IfOk, IfSome};
 ghost use Rattle.pure_io.specs.declared.library.File as library;
 ghost use Rattle.pure_io.specs.Outside.{Rose, text_named};
-ghost use Rattle.pure_graph.specs.Limits.{most_files, most_bytes, most_session_parts};
+ghost use Rattle.pure_graph.specs.Limits.{most_files, most_bytes, session_parts_bound};
 ghost use Rattle.pure_graph.specs.Listing.{file_name};
 ghost use Rattle.pure_graph.specs.Drafts.{IsKnownOf, AreDraftsFrom, IsReadTo, IsReadOn, AreReadBehind};
 ghost use Rattle.pure_graph.specs.Seen.{seen_files};
@@ -126,8 +126,8 @@ fn counted_files(
     before: ReadFiles,
     drafts: Vec<Draft>,
 ) -> Result<ReadFiles, AllocError>
-    requires { before.parts ≤ most_session_parts }
-    ensures few { IfOk result (λ read. read.parts ≤ most_session_parts) }
+    requires { before.parts ≤ session_parts_bound }
+    ensures few { IfOk result (λ read. read.parts ≤ session_parts_bound) }
     ensures behind { IfOk result (λ read. AreReadBehind before drafts.items read) }
 {
     let ReadFiles {
@@ -155,8 +155,8 @@ fn read_on<R: Files + Print + AllocGlobal, T: Threads + Sync, L: Library>(
     before: ReadFiles,
 ) -> Result<ReadFiles, LoadFault>
     requires room { place + length theories.now < 2 ^ 64 }
-    requires few { before.parts ≤ most_session_parts }
-    ensures few { IfOk result (λ read. read.parts ≤ most_session_parts) }
+    requires few { before.parts ≤ session_parts_bound }
+    ensures few { IfOk result (λ read. read.parts ≤ session_parts_bound) }
     ensures told { IfOk result (λ read. IsReadOn (L.files library.old) place theories.now before read) }
     ensures fault { result ≡ Err LoadFault.ReadFault → Rose (L.faults library.old) (L.faults library.new) }
     ensures files { L.files library.new ≡ L.files library.old }

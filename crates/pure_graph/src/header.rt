@@ -10,9 +10,6 @@ use crate::outcome::{Outcome, Reason};
 use pure_script::{Command, Have, Step, TheoryText};
 use pure_text::Text;
 
-/// The most parts that a theory may have.
-const MOST_PARTS: usize = 512;
-
 /// The most numbered steps that a proof may have.
 const MOST_STEPS: usize = 1000;
 
@@ -107,6 +104,13 @@ fn command_parts(command: &Command) -> usize
     }
 }
 
+/// The most parts that a theory of this version may have.
+fn most_parts(version: u32) -> usize
+    ensures { result ≡ most_parts version }
+{
+    if version == 1 { 512 } else { 1024 }
+}
+
 /// The parts of the commands, if they are at most so many.
 pub(crate) fn parts_within(commands: &[Command], most: usize) -> Option<usize>
     ensures { MatchOption result (most < spec.part_count (seen_commands commands.now)) (λ n. (n ≡ spec.part_count (seen_commands commands.now)) × (n ≤ most)) }
@@ -122,18 +126,19 @@ pub(crate) fn parts_within(commands: &[Command], most: usize) -> Option<usize>
     Some(count)
 }
 
-/// Whether the commands have more parts than a theory may have.
-fn has_many_parts(commands: &[Command]) -> bool
-    ensures { result ≡ nat_lt most_parts (spec.part_count (seen_commands commands.now)) }
+/// Whether the commands have more parts than a theory of this version may have.
+fn has_many_parts(version: u32, commands: &[Command]) -> bool
+    ensures { result ≡ nat_lt (most_parts version) (spec.part_count (seen_commands commands.now)) }
 {
-    parts_within(commands, MOST_PARTS).is_none()
+    parts_within(commands, most_parts(version)).is_none()
 }
 
 /// Whether the theory has more parts than it may have, or a proof that is too long.
 fn is_large(text: &TheoryText) -> bool
     ensures { result ≡ spec.is_large (seen_theory text.now) }
 {
-    has_many_parts(text.commands.as_slice()) || have_long_proof(text.commands.as_slice())
+    has_many_parts(text.version, text.commands.as_slice())
+        || have_long_proof(text.commands.as_slice())
 }
 
 /// Whether the header's name is the file's, and isn't Pure.
@@ -144,9 +149,16 @@ fn is_headed(theory: &Text, text: &TheoryText) -> bool
     text.name == *theory && text.name.bytes() != b"Pure".as_slice()
 }
 
-/// What the tree of a theory's file says.
-pub(crate) fn tree_outcome(theory: &Text, source: Text, text: TheoryText) -> Outcome
-    ensures { seen_outcome result ≡ spec.tree_outcome theory.now source (seen_theory text) }
+/// Whether there is such a version.
+fn is_known_version(version: u32) -> bool
+    ensures { result ≡ spec.is_known_version version }
+{
+    version == 1 || version == 2
+}
+
+/// What the tree of a theory's file says, where its version is known.
+fn known_outcome(theory: &Text, source: Text, text: TheoryText) -> Outcome
+    ensures { seen_outcome result ≡ spec.known_outcome theory.now source (seen_theory text) }
 {
     if !is_headed(theory, &text) {
         return Outcome::Refused {
@@ -159,4 +171,16 @@ pub(crate) fn tree_outcome(theory: &Text, source: Text, text: TheoryText) -> Out
         };
     }
     Outcome::Stands { source, text }
+}
+
+/// What the tree of a theory's file says.
+pub(crate) fn tree_outcome(theory: &Text, source: Text, text: TheoryText) -> Outcome
+    ensures { seen_outcome result ≡ spec.tree_outcome theory.now source (seen_theory text) }
+{
+    if !is_known_version(text.version) {
+        return Outcome::Refused {
+            reason: Reason::UnknownVersion,
+        };
+    }
+    known_outcome(theory, source, text)
 }

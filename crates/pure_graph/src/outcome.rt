@@ -13,6 +13,8 @@ pub enum Reason {
     TooLarge,
     /// It isn't in the grammar.
     Syntax { line: u32, column: u32 },
+    /// Its version is neither 1 nor 2.
+    UnknownVersion,
     /// Its header has another name than the file, or that of Pure.
     HeaderName,
     /// It lies on a cycle of imports.

@@ -9,9 +9,9 @@ use Rattle.pure_grammar.specs.declared.lexeme.Keyword.TheVariants as keyword
 use Rattle.pure_grammar.specs.declared.lexeme.Sign.TheVariants as sign
 use Rattle.pure_grammar.specs.Tokens.Spelling.{Spells, HasFault}
 use Rattle.pure_grammar.specs.Theories.TheoryText.{Span, Command, TheoryText}
-use Rattle.pure_grammar.specs.Theories.Lexeme.{Lexeme, Reserved, Signed, Plain, Dotted, Variable, Numeral, Quoted, Other, Ends, same, is_word, ident_in, lexeme_of, lexeme, lexemes, word_lexeme, command_lexeme, proof_lexeme, symbol_lexeme}
+use Rattle.pure_grammar.specs.Theories.Lexeme.{Lexeme, Reserved, Signed, Plain, Dotted, Variable, Numeral, Quoted, Other, Ends, same, is_word, ident_in, number_in, lexeme_of, lexeme, lexemes, word_lexeme, command_lexeme, proof_lexeme, symbol_lexeme}
 use Rattle.pure_grammar.specs.Theories.Outer.{SpellsTheory, HasSyntaxFault, place_of}
-use Rattle.pure_grammar.specs.Theories.Reader.{State, Header, Place, Turn, Moves, Adds, Refuses, AtStart, AtTheoryName, AfterTheoryName, AtImport, AfterImport, InBody, AtLast, Through, Stuck, goes_if, goes_with, goes_on, body_begun, after_import, body_state, body_next, is_after_end, turn, next, run, expected}
+use Rattle.pure_grammar.specs.Theories.Reader.{State, Header, Place, Turn, Moves, Adds, Refuses, AtStart, AtVersion, AfterVersion, AtTheoryName, AfterTheoryName, AtImport, AfterImport, InBody, AtLast, Through, Stuck, goes_if, goes_with, goes_on, body_begun, after_import, body_state, body_next, is_after_end, turn, next, run, expected}
 use Rattle.pure_grammar.specs.Theories.Reader as reader
 use Rattle.pure_grammar.proofs.FaultLemmas.{Gets-IsTheory, goes-wrong, is_last}
 use Rattle.pure_lex.proofs.Existence.{some_reading}
@@ -112,22 +112,25 @@ body-inside h cs Refuses v e = absurd (none-some v e)
 
 place-inside : (h : Header) (cs : List Command) (place : Place) (l : Lexeme) (v : State) → is_end l ≡ false → body_next h cs place l ≡ Some v → is_last v ≡ false
 place-inside h cs place Ends v n e = absurd (true≢false n)
-place-inside h cs place (Reserved w) v n e = body-inside h cs (turn place (Reserved w)) v e
-place-inside h cs place (Signed s) v n e = body-inside h cs (turn place (Signed s)) v e
-place-inside h cs place (Plain x at) v n e = body-inside h cs (turn place (Plain x at)) v e
-place-inside h cs place (Dotted x at) v n e = body-inside h cs (turn place (Dotted x at)) v e
-place-inside h cs place (Variable x at) v n e = body-inside h cs (turn place (Variable x at)) v e
-place-inside h cs place (Numeral m) v n e = body-inside h cs (turn place (Numeral m)) v e
-place-inside h cs place (Quoted at) v n e = body-inside h cs (turn place (Quoted at)) v e
-place-inside h cs place (Other k) v n e = body-inside h cs (turn place (Other k)) v e
+place-inside h cs place (Reserved w) v n e = body-inside h cs (turn h.version place (Reserved w)) v e
+place-inside h cs place (Signed s) v n e = body-inside h cs (turn h.version place (Signed s)) v e
+place-inside h cs place (Plain x at) v n e = body-inside h cs (turn h.version place (Plain x at)) v e
+place-inside h cs place (Dotted x at) v n e = body-inside h cs (turn h.version place (Dotted x at)) v e
+place-inside h cs place (Variable x at) v n e = body-inside h cs (turn h.version place (Variable x at)) v e
+place-inside h cs place (Numeral m) v n e = body-inside h cs (turn h.version place (Numeral m)) v e
+place-inside h cs place (Quoted at) v n e = body-inside h cs (turn h.version place (Quoted at)) v e
+place-inside h cs place (Other k) v n e = body-inside h cs (turn h.version place (Other k)) v e
 
 next-inside : (u : State) (l : Lexeme) (v : State) → is_end l ≡ false → next u l ≡ Some v → is_last v ≡ false
-next-inside AtStart l v n e = if-inside _ _ v refl e
-next-inside AtTheoryName l v n e = with-inside (λ x. AfterTheoryName x) (λ x. refl) (ident_in l) v e
-next-inside (AfterTheoryName x) l v n e =
-    let begun : State = body_begun (record { name = x; imports = codes "Pure" ∷ [] }) in
-    either-inside (is_word keyword.Imports l) (AtImport x) v (goes_if (is_word keyword.Begin l) begun) refl (λ f. if-inside (is_word keyword.Begin l) begun v refl f) e
-next-inside (AtImport x) l v n e = with-inside (λ i. AfterImport (record { name = x; imports = i ∷ [] })) (λ i. refl) (ident_in l) v e
+next-inside AtStart l v n e =
+    either-inside (is_word keyword.Version l) AtVersion v (goes_if (is_word keyword.Theory l) (AtTheoryName 1)) refl (λ f. if-inside (is_word keyword.Theory l) (AtTheoryName 1) v refl f) e
+next-inside AtVersion l v n e = with-inside (λ version. AfterVersion version) (λ version. refl) (number_in l) v e
+next-inside (AfterVersion version) l v n e = if-inside _ _ v refl e
+next-inside (AtTheoryName version) l v n e = with-inside (λ x. AfterTheoryName version x) (λ x. refl) (ident_in l) v e
+next-inside (AfterTheoryName version x) l v n e =
+    let begun : State = body_begun (record { version = version; name = x; imports = codes "Pure" ∷ [] }) in
+    either-inside (is_word keyword.Imports l) (AtImport version x) v (goes_if (is_word keyword.Begin l) begun) refl (λ f. if-inside (is_word keyword.Begin l) begun v refl f) e
+next-inside (AtImport version x) l v n e = with-inside (λ i. AfterImport (record { version = version; name = x; imports = i ∷ [] })) (λ i. refl) (ident_in l) v e
 next-inside (AfterImport h) l v n e = import-inside h l (ident_in l) v e
 next-inside (InBody h cs place) l v n e = place-inside h cs place l v n e
 next-inside (AtLast t) l v n e = absurd (none-some v e)
@@ -138,9 +141,11 @@ last-if false t v e = absurd (none-some v e)
 
 ends-last : (u v : State) → next u Ends ≡ Some v → (t : TheoryText) × (v ≡ AtLast t)
 ends-last AtStart v e = absurd (none-some v e)
-ends-last AtTheoryName v e = absurd (none-some v e)
-ends-last (AfterTheoryName x) v e = absurd (none-some v e)
-ends-last (AtImport x) v e = absurd (none-some v e)
+ends-last AtVersion v e = absurd (none-some v e)
+ends-last (AfterVersion version) v e = absurd (none-some v e)
+ends-last (AtTheoryName version) v e = absurd (none-some v e)
+ends-last (AfterTheoryName version x) v e = absurd (none-some v e)
+ends-last (AtImport version x) v e = absurd (none-some v e)
 ends-last (AfterImport h) v e = absurd (none-some v e)
 ends-last (InBody h cs place) v e = last-if (is_after_end place) _ v e
 ends-last (AtLast t) v e = absurd (none-some v e)

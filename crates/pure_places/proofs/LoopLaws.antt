@@ -1,9 +1,7 @@
 -- The search as loops make it.
-use Rattle.std.proofs.Common.{◌≡◌, ◌<◌, ◌≤◌, ℕ, suc, zero, ◌+◌, Bool, true, false, List, [], ◌∷◌, ◌++◌, length, map, drop, get_or, refl, sym, ◌∙◌, ap, subst, arith, Option, Some, None, if◌then◌else◌, codes, drop-cons, slice_range}
-use Rattle.std.proofs.lemmas.List.{append_assoc}
+use Rattle.std.proofs.Common.{◌≡◌, ◌<◌, ◌≤◌, ℕ, suc, zero, Bool, true, false, List, [], ◌∷◌, ◌++◌, length, drop, get_or, refl, sym, ◌∙◌, ap, subst, arith, None, if◌then◌else◌, codes, drop-cons, slice_range}
 use Rattle.pure_text.specs.Lists.{Each}
 use Rattle.pure_grammar.specs.declared.token.Token.{Token}
-use Rattle.pure_grammar.specs.declared.token.TokenKind.{TokenKind}
 use Rattle.pure_grammar.specs.declared.token.TokenKind.TheVariants as kind
 use Rattle.pure_grammar.specs.declared.lexeme.Keyword.TheVariants as keyword
 use Rattle.pure_grammar.specs.declared.lexeme.Sign.TheVariants as sign
@@ -11,7 +9,6 @@ use Rattle.pure_grammar.specs.Tokens.Spelling.{IsSlice, AreSlices}
 use Rattle.pure_grammar.specs.Theories.Outer.{place_of}
 use Rattle.pure_grammar.specs.Theories.Lexeme.{Lexeme, Reserved, Signed, Other, proof_lexeme, command_lexeme, word_lexeme, symbol_lexeme, lexeme_of, ident_in}
 use Rattle.pure_grammar.proofs.Beside.{beside, beside-has}
-use Rattle.pure_places.specs.Parts.{Import}
 use Rattle.pure_places.specs.Marks.{is_begin}
 use Rattle.pure_places.specs.Found.{token_mark, token_ident, found_imports, import_of}
 
@@ -84,11 +81,17 @@ pub symbol-no_ident : (source : List ℕ) (t : Token) → t.kind ≡ kind.Symbol
 symbol-no_ident source t e =
     subst (λ k. None ≡ ident_in (lexeme_of k (slice_range source t.from t.to) (record { from = t.from; to = t.to }))) (sym e) (sym (symbol-other (slice_range source t.from t.to)))
 
--- A source of one token or of none ends where a second one would stand.
-pub second-none : (ts : List Token) (len : ℕ) → length ts ≤ 1 → len ≡ place_of ts len 1
-second-none [] len few = refl
-second-none (t ∷ []) len few = refl
-second-none (t ∷ u ∷ ts) len few = absurd (omega (arith, few))
+-- the place of a token, and that behind the last one
+pub token-place : (ts : List Token) (k len : ℕ) (d : Token) → k < length ts → (get_or ts k d).from ≡ place_of ts len k
+token-place [] k len d within = absurd (omega (arith, within))
+token-place (t ∷ ts) zero len d within = refl
+token-place (t ∷ ts) (suc k) len d within = token-place ts k len d (omega (arith, within))
+
+pub end-place : (ts : List Token) (k len : ℕ) → length ts ≤ k → len ≡ place_of ts len k
+end-place [] zero len past = refl
+end-place [] (suc k) len past = refl
+end-place (t ∷ ts) zero len past = absurd (omega (arith, past))
+end-place (t ∷ ts) (suc k) len past = end-place ts k len (omega (arith, past))
 
 pub slices-each : (source : List ℕ) (from to : ℕ) (ts : List Token) → AreSlices source from to ts → Each (IsSlice source) ts
 slices-each source from to [] are = tt

@@ -1,29 +1,28 @@
 -- In the text of a theory the names of its commands are found, and the imports in its header.
-use Rattle.std.proofs.Common.{◌≡◌, ℕ, suc, Bool, true, false, List, [], ◌∷◌, ◌++◌, length, map, refl, sym, ◌∙◌, ap, if◌then◌else◌}
-use Rattle.std.proofs.lemmas.List.{append_assoc, length-append}
+use Rattle.std.proofs.Common.{◌≡◌, false, List, [], ◌∷◌, ◌++◌, refl, ◌∙◌, ap, if◌then◌else◌}
 use Rattle.pure_grammar.specs.declared.lexeme.Keyword.TheVariants as keyword
 use Rattle.pure_grammar.specs.declared.lexeme.Sign.TheVariants as sign
 use Rattle.pure_grammar.specs.Theories.Lexeme.{Lexeme, Reserved, Signed, Plain, Dotted, Quoted, Ends}
-use Rattle.pure_grammar.specs.Theories.Phrase.{Ident, Name, Simple, Full, TypeVariable, TypePhrase, QuotedType, NamedType, VariableType, SortPhrase, OneClass, NoClass, Classes, BasicPhrase, ByAssumption, ByRule, ByErule, ByDrule, ByUnfold, MethodPhrase, Alone, Together, StepPhrase, ApplyStep, PreferStep, DeferStep, EndPhrase, DoneEnd, ByEnd, ProofPhrase, AbovePhrase, NoneAbove, Above, ParamsPhrase, NoParam, OneParam, Params, DomainsPhrase, NoDomain, Domains, ItemPhrase, AxiomPhrase, LemmaWord, LemmaWritten, TheoremWritten, CommandPhrase, ClassCommand, TypedeclCommand, AritiesCommand, ConstsCommand, AxiomsCommand, DefinitionCommand, LemmaCommand, ImportsPhrase, NoImport, Imports, FilePhrase}
-use Rattle.pure_grammar.specs.Theories.PhraseText.{each, each_comma, ident_text, name_text, variable_text, type_text, sort_text, assumption_word, rule_word, erule_word, drule_word, unfold_word, basic_text, method_text, step_text, end_text, proof_text, above_text, params_text, domains_text, item_text, axiom_text, and_axiom_text, lemma_word_text, command_text, imports_text, file_text}
-use Rattle.pure_places.specs.Parts.{Part, Import, from_each, named, item_part, axiom_part, command_parts, import_part, import_parts, body_text, proof_words}
-use Rattle.pure_places.specs.Marks.{mark_of, first_mark, is_name, is_colon, behind, steps_of}
-use Rattle.pure_places.specs.declared.mark.Mark.{Mark}
+use Rattle.pure_grammar.specs.Theories.Phrase.{Ident, Name, Simple, Full, TypeVariable, TypePhrase, QuotedType, NamedType, VariableType, SortPhrase, OneClass, NoClass, Classes, BasicPhrase, ByAssumption, ByRule, ByErule, ByDrule, ByUnfold, MethodPhrase, Alone, Together, StepPhrase, ApplyStep, PreferStep, DeferStep, EndPhrase, DoneEnd, ByEnd, ProofPhrase, AbovePhrase, NoneAbove, Above, ParamsPhrase, NoParam, OneParam, Params, DomainsPhrase, NoDomain, Domains, ItemPhrase, AxiomPhrase, LemmaWritten, TheoremWritten, CommandPhrase, ClassCommand, TypedeclCommand, AritiesCommand, ConstsCommand, AxiomsCommand, DefinitionCommand, LemmaCommand, HavePhrase, ImportsPhrase, NoImport, Imports, VersionPhrase, NoVersion, WrittenVersion, FilePhrase}
+use Rattle.pure_grammar.specs.Theories.PhraseText.{each, each_comma, ident_text, name_text, variable_text, type_text, sort_text, assumption_word, rule_word, erule_word, drule_word, unfold_word, basic_text, method_text, step_text, end_text, proof_text, above_text, params_text, domains_text, item_text, axiom_text, and_axiom_text, have_text, command_text, imports_text, version_text, file_text}
+use Rattle.pure_places.specs.Parts.{CommandParts, from_each, named, item_part, axiom_part, have_part, command_parts, import_part, import_parts, body_text, header_text, proof_words}
+use Rattle.pure_places.specs.Proofs.{Proofs}
+use Rattle.pure_places.specs.Marks.{mark_of, first_mark, is_name, is_colon, behind, proofs_of, command_of}
 use Rattle.pure_places.specs.declared.mark.Before.{Before}
 use Rattle.pure_places.specs.declared.mark.Before.TheVariants as before
-use Rattle.pure_places.proofs.LinkLaws.{text_commands, text_imports, text_from, text_steps}
-use Rattle.pure_places.proofs.StepLaws.{IsBehind, behind-commands, proof-found}
+use Rattle.pure_places.proofs.LinkLaws.{text_commands, text_imports, text_from}
+use Rattle.pure_places.proofs.StepLaws.{IsBehind, behind-commands, proofs-found}
 
 -- The text doesn't begin with a colon.
 abbrev IsPlain : List Lexeme → Type 0
 IsPlain r = is_colon (first_mark mark_of r) ≡ false
 
 -- the search among the commands, behind a word that waits for no name
-abbrev rest : List Lexeme → List (Part (List Lexeme))
+abbrev rest : List Lexeme → List (CommandParts (List Lexeme))
 rest = text_commands before.Other
 
 passed : (b : Before) (l : Lexeme) (r : List Lexeme) → is_name b (mark_of l) (first_mark mark_of r) ≡ false → text_commands b (l ∷ r) ≡ text_commands (behind b (mark_of l)) r
-passed b l r e = ap (λ z. if z then record { name = l ∷ r; steps = steps_of mark_of text_from b r } ∷ rest r else text_commands (behind b (mark_of l)) r) e
+passed b l r e = ap (λ z. if z then command_of (l ∷ r) (proofs_of mark_of text_from b r) ∷ rest r else text_commands (behind b (mark_of l)) r) e
 
 name-passed : (n : Name) (r : List Lexeme) → IsPlain r → rest (name_text n r) ≡ rest r
 name-passed (Simple text at) r plain = passed before.Other (Plain text at) r plain
@@ -112,6 +111,13 @@ plain-steps (ApplyStep m ∷ ss) r plain = refl
 plain-steps (PreferStep n ∷ ss) r plain = refl
 plain-steps (DeferStep ∷ ss) r plain = refl
 
+plain-proof : (p : ProofPhrase) (r : List Lexeme) → IsPlain (proof_text p r)
+plain-proof p r = plain-steps p.steps (end_text p.ending r) (plain-end p.ending r)
+
+plain-haves : (haves : List HavePhrase) (r : List Lexeme) → IsPlain r → IsPlain (each have_text haves r)
+plain-haves [] r plain = plain
+plain-haves (h ∷ haves) r plain = refl
+
 steps-passed : (ss : List StepPhrase) (r : List Lexeme) → IsPlain r → rest (each step_text ss r) ≡ rest r
 steps-passed [] r plain = refl
 steps-passed (s ∷ ss) r plain = step-passed s (each step_text ss r) (plain-steps ss r plain) ∙ steps-passed ss r plain
@@ -140,11 +146,17 @@ axioms-found : (as_more : List AxiomPhrase) (r : List Lexeme) → rest (each and
 axioms-found [] r = refl
 axioms-found (a ∷ more) r = ap (λ z. named (axiom_text a (each and_axiom_text more r)) ∷ z) (axioms-found more r)
 
-lemma-found : (a : AxiomPhrase) (p : ProofPhrase) (r : List Lexeme) → IsPlain r → IsBehind r
-    → text_commands before.Lemma (axiom_text a (proof_text p r)) ≡ record { name = axiom_text a (proof_text p r); steps = proof_words p r } ∷ rest r
-lemma-found a p r plain ends =
-    ap (λ z. record { name = axiom_text a (proof_text p r); steps = z } ∷ rest (proof_text p r)) (proof-found p r ends)
-    ∙ ap (λ z. record { name = axiom_text a (proof_text p r); steps = proof_words p r } ∷ z) (proof-passed p r plain)
+haves-passed : (haves : List HavePhrase) (r : List Lexeme) → IsPlain r → rest (each have_text haves r) ≡ rest r
+haves-passed [] r plain = refl
+haves-passed (h ∷ haves) r plain = proof-passed h.proof (each have_text haves r) (plain-haves haves r plain) ∙ haves-passed haves r plain
+
+lemma-found : (a : AxiomPhrase) (haves : List HavePhrase) (p : ProofPhrase) (r : List Lexeme) → IsPlain r → IsBehind r
+    → text_commands before.Lemma (axiom_text a (each have_text haves (proof_text p r))) ≡ command_parts (LemmaCommand LemmaWritten a haves p) r ++ rest r
+lemma-found a haves p r plain ends =
+    let text : List Lexeme = axiom_text a (each have_text haves (proof_text p r)) in
+    let found : Proofs (List Lexeme) = record { haves = from_each have_part have_text haves (proof_text p r); steps = proof_words p r } in
+    ap (λ z. command_of text z ∷ rest (each have_text haves (proof_text p r))) (proofs-found haves p r ends)
+    ∙ ap (λ z. command_of text found ∷ z) (haves-passed haves (proof_text p r) (plain-proof p r) ∙ proof-passed p r plain)
 
 arity-found : (con : Name) (d : DomainsPhrase) (class : Name) (r : List Lexeme) → IsPlain r
     → rest (name_text con (Signed sign.DoubleColon ∷ domains_text d (name_text class r))) ≡ named (name_text con (Signed sign.DoubleColon ∷ domains_text d (name_text class r))) ∷ rest r
@@ -161,8 +173,8 @@ command-found (ConstsCommand i is) r plain ends =
     item-found i (each item_text is r) (plain-items is r plain) ∙ ap (λ z. named (item_text i (each item_text is r)) ∷ z) (items-found is r plain)
 command-found (AxiomsCommand a more) r plain ends = ap (λ z. named (axiom_text a (each and_axiom_text more r)) ∷ z) (axioms-found more r)
 command-found (DefinitionCommand i prop) r plain ends = item-found i (Reserved keyword.Where ∷ Quoted prop ∷ r) refl
-command-found (LemmaCommand LemmaWritten a p) r plain ends = lemma-found a p r plain ends
-command-found (LemmaCommand TheoremWritten a p) r plain ends = lemma-found a p r plain ends
+command-found (LemmaCommand LemmaWritten a haves p) r plain ends = lemma-found a haves p r plain ends
+command-found (LemmaCommand TheoremWritten a haves p) r plain ends = lemma-found a haves p r plain ends
 
 abbrev last : List Lexeme
 last = Reserved keyword.End ∷ Ends ∷ []
@@ -175,8 +187,8 @@ plain-commands (AritiesCommand con doms class ∷ cs) = refl
 plain-commands (ConstsCommand i is ∷ cs) = refl
 plain-commands (AxiomsCommand a more ∷ cs) = refl
 plain-commands (DefinitionCommand i prop ∷ cs) = refl
-plain-commands (LemmaCommand LemmaWritten a p ∷ cs) = refl
-plain-commands (LemmaCommand TheoremWritten a p ∷ cs) = refl
+plain-commands (LemmaCommand LemmaWritten a haves p ∷ cs) = refl
+plain-commands (LemmaCommand TheoremWritten a haves p ∷ cs) = refl
 
 commands-found : (cs : List CommandPhrase) → rest (each command_text cs last) ≡ from_each command_parts command_text cs last
 commands-found [] = refl
@@ -201,9 +213,14 @@ imports-passed : (i : ImportsPhrase) (r : List Lexeme) → rest (imports_text i 
 imports-passed NoImport r = refl
 imports-passed (Imports x xs) r = passed before.Other (Plain x.text x.at) (each ident_text xs (Reserved keyword.Begin ∷ r)) (plain-idents xs r) ∙ idents-passed xs r
 
+version-passed : (v : VersionPhrase) (r : List Lexeme) → rest (version_text v r) ≡ rest r
+version-passed NoVersion r = refl
+version-passed (WrittenVersion n) r = refl
+
 pub file-commands : (f : FilePhrase) → rest (file_text f) ≡ from_each command_parts command_text f.commands last
 file-commands f =
-    passed before.Other (Plain f.name.text f.name.at) (imports_text f.imports (Reserved keyword.Begin ∷ body_text f)) (plain-imports f.imports (body_text f)) ∙ imports-passed f.imports (body_text f) ∙ commands-found f.commands
+    version-passed f.version (Reserved keyword.Theory ∷ header_text f)
+    ∙ passed before.Other (Plain f.name.text f.name.at) (imports_text f.imports (Reserved keyword.Begin ∷ body_text f)) (plain-imports f.imports (body_text f)) ∙ imports-passed f.imports (body_text f) ∙ commands-found f.commands
 
 idents-found : (xs : List Ident) (r : List Lexeme) → text_imports (each ident_text xs (Reserved keyword.Begin ∷ r)) ≡ from_each import_part ident_text xs (Reserved keyword.Begin ∷ r)
 idents-found [] r = refl

@@ -1,5 +1,5 @@
 -- What is found in a source are the places of the theory that it is.
-use Rattle.std.proofs.Common.{◌≡◌, ℕ, ◌-◌, List, length, take, refl, sym, ◌∙◌, ap, subst, arith, take_all, Result, Ok, Err, IfOk}
+use Rattle.std.proofs.Common.{◌≡◌, ℕ, ◌-◌, List, length, take, ◌∙◌, ap, subst, arith, take_all, Result, Ok, Err, IfOk}
 use Rattle.std.specs.Prelude.{slice_range}
 use Rattle.std.specs.declared.alloc.AllocError.{AllocError}
 use Rattle.pure_grammar.specs.declared.token.Token.{Token}

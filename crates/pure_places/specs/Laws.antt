@@ -1,8 +1,7 @@
 -- Laws of the search.
-use Rattle.std.specs.Prelude.{◌≡◌, ℕ, List, length, map}
+use Rattle.std.specs.Prelude.{◌≡◌, ℕ, List, length}
 use Rattle.pure_grammar.specs.declared.token.Token.{Token}
 use Rattle.pure_grammar.specs.Theories.Lexeme.{lexemes}
-use Rattle.pure_grammar.specs.Theories.TheoryText.{Command, Class, TypeDecl, Arity, Const, Axiom, Definition, Lemma}
 use Rattle.pure_grammar.specs.Theories.Phrase.{FilePhrase}
 use Rattle.pure_grammar.specs.Theories.PhraseText.{file_text}
 use Rattle.pure_grammar.specs.Theories.PhraseTree.{file_tree}

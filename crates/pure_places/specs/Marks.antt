@@ -5,7 +5,8 @@ use Rattle.pure_grammar.specs.declared.lexeme.Keyword.TheVariants as keyword
 use Rattle.pure_grammar.specs.declared.lexeme.Sign.{Sign}
 use Rattle.pure_grammar.specs.declared.lexeme.Sign.TheVariants as sign
 use Rattle.pure_grammar.specs.Theories.Lexeme.{Lexeme, Reserved, Signed, Plain, Dotted, Variable, Numeral, Quoted, Other, Ends}
-use Rattle.pure_places.specs.Parts.{Part, Import}
+use Rattle.pure_places.specs.Parts.{CommandParts, Import}
+use Rattle.pure_places.specs.Proofs.{Proofs, no_proofs, own_proof, proofs_in}
 use Rattle.pure_places.specs.declared.mark.Mark.{Mark}
 use Rattle.pure_places.specs.declared.mark.Mark.TheVariants as mark
 use Rattle.pure_places.specs.declared.mark.Before.{Before}
@@ -31,8 +32,8 @@ word_mark keyword.Done = mark.Done
 word_mark keyword.By = mark.By
 word_mark keyword.Prefer = mark.Move
 word_mark keyword.Defer = mark.Move
-word_mark keyword.Have = mark.Word
-word_mark keyword.Version = mark.Word
+word_mark keyword.Have = mark.Have
+word_mark keyword.Version = mark.Version
 
 abbrev pub sign_mark : Sign → Mark
 sign_mark sign.Less = mark.Rest
@@ -60,7 +61,7 @@ abbrev pub is_colon : Mark → Bool
 is_colon mark.Colon = true
 is_colon _ = false
 
--- The name of a class or a type is the first identifier behind the keyword; any other has a colon behind it.
+-- The name of a class or a type is the first identifier behind the keyword; any other has a colon behind it. That of a have is none of a command.
 abbrev pub is_name : Before → Mark → (next : Mark) → Bool
 is_name before.Kind mark.Ident next = true
 is_name before.Kind _ next = false
@@ -69,46 +70,25 @@ is_name before.Other mark.Full next = is_colon next
 is_name before.Other _ next = false
 is_name before.Lemma mark.Ident next = is_colon next
 is_name before.Lemma _ next = false
+is_name before.Have _ next = false
 
 -- what stands before the token behind this one
 abbrev pub newly : Mark → Before
 newly mark.Kind = before.Kind
 newly mark.Lemma = before.Lemma
+newly mark.Have = before.Have
 newly _ = before.Other
 
 -- behind a token that is no command's name; the words of a class or a type wait for it
 abbrev pub behind : Before → Mark → Before
 behind before.Kind m = before.Kind
 behind before.Lemma m = newly m
+behind before.Have m = newly m
 behind before.Other m = newly m
 
--- the end of a proof, and a token behind it
-abbrev pub is_done : Mark → Bool
-is_done mark.Done = true
-is_done _ = false
-
-abbrev pub is_behind_proof : Mark → Bool
-is_behind_proof mark.Word = true
-is_behind_proof mark.Begin = true
-is_behind_proof mark.Kind = true
-is_behind_proof mark.Lemma = true
-is_behind_proof _ = false
-
-abbrev pub is_by : Mark → Bool
-is_by mark.By = true
-is_by _ = false
-
--- an identifier is a method's word behind `apply`, `by`, a parenthesis or a comma
-abbrev pub calls_method : Mark → Bool
-calls_method mark.Apply = true
-calls_method mark.Comma = true
-calls_method _ = false
-
--- a step's word: a method's, or `prefer` or `defer`
-abbrev pub is_step : (called : Bool) → Mark → Bool
-is_step called mark.Move = true
-is_step called mark.Ident = called
-is_step called _ = false
+abbrev pub is_version : Mark → Bool
+is_version mark.Version = true
+is_version _ = false
 
 abbrev pub is_begin : Mark → Bool
 is_begin mark.Begin = true
@@ -119,27 +99,19 @@ abbrev pub first_mark : {X : Type 0} → (X → Mark) → List X → Mark
 first_mark seen [] = mark.Word
 first_mark seen (x ∷ xs) = seen x
 
--- The places of a proof's steps: that of `by` comes last.
-abbrev pub steps_in : {X P : Type 0} → (seen : X → Mark) → (place : X → List X → P) → (by : List P) → (called : Bool) → List X → List P
-steps_in seen place by called [] = by
-steps_in seen place by called (x ∷ xs) =
-    if is_done (seen x) then place x xs ∷ []
-    else (if is_behind_proof (seen x) then by
-    else (if is_by (seen x) then steps_in seen place (place x xs ∷ []) true xs
-    else (if is_step called (seen x) then place x xs ∷ steps_in seen place by false xs
-    else steps_in seen place by (calls_method (seen x)) xs)))
+-- the haves of a lemma and the steps of its proof, which stand behind a colon and a quoted text
+abbrev pub proofs_of : {X P : Type 0} → (seen : X → Mark) → (place : X → List X → P) → Before → (behind_name : List X) → Proofs P
+proofs_of seen place before.Lemma xs = proofs_in seen place own_proof no_proofs (drop 2 xs)
+proofs_of seen place _ xs = no_proofs
 
--- the steps of a lemma's proof, which stands behind a colon and a quoted text
-abbrev pub steps_of : {X P : Type 0} → (seen : X → Mark) → (place : X → List X → P) → Before → (behind_name : List X) → List P
-steps_of seen place before.Lemma xs = steps_in seen place [] false (drop 2 xs)
-steps_of seen place before.Kind xs = []
-steps_of seen place before.Other xs = []
+abbrev pub command_of : {P : Type 0} → (name : P) → Proofs P → CommandParts P
+command_of name found = record { haves = found.haves; own = record { name = name; steps = found.steps } }
 
--- the commands: a name, and the steps of a proof, for each
-abbrev pub commands_in : {X P : Type 0} → (seen : X → Mark) → (place : X → List X → P) → Before → List X → List (Part P)
+-- the commands: a name, the haves and the steps of a proof, for each
+abbrev pub commands_in : {X P : Type 0} → (seen : X → Mark) → (place : X → List X → P) → Before → List X → List (CommandParts P)
 commands_in seen place b [] = []
 commands_in seen place b (x ∷ xs) =
-    if is_name b (seen x) (first_mark seen xs) then record { name = place x xs; steps = steps_of seen place b xs } ∷ commands_in seen place before.Other xs
+    if is_name b (seen x) (first_mark seen xs) then command_of (place x xs) (proofs_of seen place b xs) ∷ commands_in seen place before.Other xs
     else commands_in seen place (behind b (seen x)) xs
 
 abbrev pub import_at : {P : Type 0} → Option (List ℕ) → P → List (Import P)

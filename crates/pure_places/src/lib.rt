@@ -7,5 +7,5 @@ mod parts;
 mod search;
 mod steps;
 
-pub use parts::{Import, Part, Places};
+pub use parts::{CommandParts, Import, Part, Places, part_at};
 pub use search::{find_places, found_among};

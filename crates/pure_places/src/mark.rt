@@ -3,6 +3,7 @@ ghost use Rattle.std.specs.Prelude.{◌≡◌, ◌≤◌, length};
 ghost use Rattle.pure_grammar.specs.Theories.Lexeme as lexeme;
 ghost use Rattle.pure_grammar.specs.Tokens.Spelling.{IsSlice};
 ghost use Rattle.pure_places.specs.Marks as spec;
+ghost use Rattle.pure_places.specs.Proofs as proofs;
 ghost use Rattle.pure_places.specs.Found.{token_mark, token_ident};
 ghost use Rattle.pure_places.specs.Idents.{seen_text};
 
@@ -14,6 +15,8 @@ use pure_grammar::{Token, TokenKind};
 pub(crate) enum Mark {
     Kind,
     Lemma,
+    Have,
+    Version,
     Begin,
     Apply,
     By,
@@ -27,12 +30,13 @@ pub(crate) enum Mark {
     Rest,
 }
 
-/// What stands before a token: the word of a class or a type whose name is still to come, the word of a lemma, or something
-/// else.
+/// What stands before a token: the word of a class or a type whose name is still to come, the word of a lemma or of a have, or
+/// something else.
 #[derive(Clone, Copy)]
 pub(crate) enum Before {
     Kind,
     Lemma,
+    Have,
     Other,
 }
 
@@ -93,7 +97,7 @@ fn word_mark(text: &[u8]) -> Mark
         return Mark::Word;
     }
     if equals(text, b"version") {
-        return Mark::Word;
+        return Mark::Version;
     }
     command_mark(text)
 }
@@ -157,7 +161,7 @@ fn proof_mark(text: &[u8]) -> Mark
         return Mark::Move;
     }
     if equals(text, b"have") {
-        return Mark::Word;
+        return Mark::Have;
     }
     Mark::Rest
 }
@@ -223,6 +227,7 @@ pub(crate) fn is_name(before: Before, mark: Mark, next: Mark) -> bool
             Mark::Ident => is_colon(next),
             _ => false,
         },
+        Before::Have => false,
         Before::Other => match mark {
             Mark::Ident => is_colon(next),
             Mark::Full => is_colon(next),
@@ -238,6 +243,7 @@ pub(crate) fn behind(before: Before, mark: Mark) -> Before
     match before {
         Before::Kind => Before::Kind,
         Before::Lemma => newly(mark),
+        Before::Have => newly(mark),
         Before::Other => newly(mark),
     }
 }
@@ -249,26 +255,38 @@ fn newly(mark: Mark) -> Before
     match mark {
         Mark::Kind => Before::Kind,
         Mark::Lemma => Before::Lemma,
+        Mark::Have => Before::Have,
         _ => Before::Other,
     }
 }
 
-/// Whether the token ends a proof.
-pub(crate) fn is_done(mark: Mark) -> bool
-    ensures { result ≡ spec.is_done mark }
+/// Whether the token is `have`.
+pub(crate) fn is_have(mark: Mark) -> bool
+    ensures { result ≡ proofs.is_have mark }
 {
     match mark {
-        Mark::Done => true,
+        Mark::Have => true,
+        _ => false,
+    }
+}
+
+/// Whether the token is `version`.
+pub(crate) fn is_version(mark: Mark) -> bool
+    ensures { result ≡ spec.is_version mark }
+{
+    match mark {
+        Mark::Version => true,
         _ => false,
     }
 }
 
 /// Whether the token stands behind a proof.
 pub(crate) fn is_behind_proof(mark: Mark) -> bool
-    ensures { result ≡ spec.is_behind_proof mark }
+    ensures { result ≡ proofs.is_behind_proof mark }
 {
     match mark {
         Mark::Word => true,
+        Mark::Version => true,
         Mark::Begin => true,
         Mark::Kind => true,
         Mark::Lemma => true,
@@ -276,34 +294,35 @@ pub(crate) fn is_behind_proof(mark: Mark) -> bool
     }
 }
 
-/// Whether the token is `by`.
-pub(crate) fn is_by(mark: Mark) -> bool
-    ensures { result ≡ spec.is_by mark }
+/// Whether the token begins a step or ends a proof.
+pub(crate) fn begins_step(mark: Mark) -> bool
+    ensures { result ≡ proofs.begins_step mark }
 {
     match mark {
+        Mark::Apply => true,
         Mark::By => true,
+        Mark::Move => true,
+        Mark::Done => true,
         _ => false,
     }
 }
 
-/// Whether a method's word may stand behind the token.
+/// Whether a method's word may stand behind the token, as behind a comma.
 pub(crate) fn calls_method(mark: Mark) -> bool
-    ensures { result ≡ spec.calls_method mark }
+    ensures { result ≡ proofs.calls_method mark }
 {
     match mark {
-        Mark::Apply => true,
         Mark::Comma => true,
         _ => false,
     }
 }
 
-/// Whether the token is a step's word.
-pub(crate) fn is_step(called: bool, mark: Mark) -> bool
-    ensures { result ≡ spec.is_step called mark }
+/// Whether the token is an identifier.
+pub(crate) fn is_ident(mark: Mark) -> bool
+    ensures { result ≡ proofs.is_ident mark }
 {
     match mark {
-        Mark::Move => true,
-        Mark::Ident => called,
+        Mark::Ident => true,
         _ => false,
     }
 }

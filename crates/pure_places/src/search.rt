@@ -3,15 +3,16 @@ ghost use Rattle.std.specs.Prelude.{◌≡◌, ◌++◌, ◌+◌, ◌∷◌, [],
 ghost use Rattle.pure_text.specs.Lists.{Each};
 ghost use Rattle.pure_grammar.specs.Tokens.Spelling.{IsSlice, AreSlices};
 ghost use Rattle.pure_grammar.specs.Theories.Outer.{place_of};
-ghost use Rattle.pure_places.specs.Marks.{first_mark, steps_of};
+ghost use Rattle.pure_places.specs.Marks.{first_mark, proofs_of};
 ghost use Rattle.pure_places.specs.Found as spec;
 ghost use Rattle.pure_places.specs.Found.{found_commands, found_imports, token_mark, token_place};
-ghost use Rattle.pure_places.specs.Seen.{seen_part, seen_import, seen_places, found_with, ArePlaces};
+ghost use Rattle.pure_places.specs.Seen.{seen_command, seen_import, seen_places, found_with, ArePlaces};
+ghost use Rattle.pure_places.specs.Stages.{seen_proofs};
 
 use crate::laws::finds_parts;
-use crate::mark::{Before, Mark, behind, ident, is_begin, is_name, mark_of};
-use crate::parts::{Import, Part, Places};
-use crate::steps::steps_in;
+use crate::mark::{Before, Mark, behind, ident, is_begin, is_name, is_version, mark_of};
+use crate::parts::{CommandParts, Import, Part, Places};
+use crate::steps::{Proofs, no_proofs, put_proofs};
 use pure_grammar::Token;
 use pure_lex::{LexFault, tokens};
 use pure_text::Text;
@@ -38,21 +39,24 @@ fn first_of(source: &[u8], tokens: &[Token]) -> Mark
     mark_of(source, tokens[0])
 }
 
-/// Where the steps of a command's proof stand, of whose tokens these are behind the name.
-fn steps_behind(
+/// The haves and the steps of a command's proof, of whose tokens these are behind the name.
+fn proofs_behind(
     alloc: Global,
     source: &[u8],
     tokens: &[Token],
     before: Before,
-) -> Result<Vec<u32>, AllocError>
+) -> Result<Proofs, AllocError>
     requires { Each (IsSlice source.now) tokens.now }
-    ensures { IfOk result (λ steps. steps.items ≡ steps_of (token_mark source.now) token_place before tokens.now) }
+    ensures { IfOk result (λ found. seen_proofs found ≡ proofs_of (token_mark source.now) token_place before tokens.now) }
 {
+    let mut found = no_proofs(alloc);
     match before {
-        Before::Lemma => steps_in(alloc, source, rest_of(tokens, 2)),
-        Before::Kind => Ok(Vec::new(alloc)),
-        Before::Other => Ok(Vec::new(alloc)),
+        Before::Lemma => put_proofs(alloc, source, rest_of(tokens, 2), &mut found)?,
+        Before::Kind => {}
+        Before::Have => {}
+        Before::Other => {}
     }
+    Ok(found)
 }
 
 /// Takes the token at this place.
@@ -62,7 +66,7 @@ fn meet(
     tokens: &[Token],
     place: usize,
     before: Before,
-    found: &mut Vec<Part>,
+    found: &mut Vec<CommandParts>,
 ) -> Result<Before, AllocError>
     requires within { place < length tokens.now }
     requires slices { Each (IsSlice source.now) tokens.now }
@@ -74,18 +78,23 @@ fn meet(
     if !is_name(before, mark, first_of(source, rest)) {
         return Ok(behind(before, mark));
     }
-    let steps = steps_behind(alloc, source, rest, before)?;
-    found.push(Part {
+    let Proofs { haves, steps } = proofs_behind(alloc, source, rest, before)?;
+    let own = Part {
         name: token.from,
         steps,
-    })?;
+    };
+    found.push(CommandParts { haves, own })?;
     Ok(Before::Other)
 }
 
 /// The commands among the tokens.
-fn commands_in(alloc: Global, source: &[u8], tokens: &[Token]) -> Result<Vec<Part>, AllocError>
+fn commands_in(
+    alloc: Global,
+    source: &[u8],
+    tokens: &[Token],
+) -> Result<Vec<CommandParts>, AllocError>
     requires { Each (IsSlice source.now) tokens.now }
-    ensures { IfOk result (λ found. map seen_part found.items ≡ found_commands source.now Before.Other tokens.now) }
+    ensures { IfOk result (λ found. map seen_command found.items ≡ found_commands source.now Before.Other tokens.now) }
 {
     let mut found = Vec::new(alloc);
     let mut before = Before::Other;
@@ -133,29 +142,42 @@ fn imports_in(alloc: Global, source: &[u8], tokens: &[Token]) -> Result<Vec<Impo
     Ok(found)
 }
 
-/// Where the second token stands, or the source's end.
-fn name_place(source: &[u8], tokens: &[Token]) -> u32
+/// Where the token with this number stands, or the source's end.
+fn place_at(source: &[u8], tokens: &[Token], number: usize) -> u32
     requires { length source.now < 4294967296 }
-    ensures { result ≡ place_of tokens.now (length source.now) 1 }
+    ensures { result ≡ place_of tokens.now (length source.now) number }
 {
-    if tokens.len() >= 2 {
-        return tokens[1].from;
+    if number < tokens.len() {
+        return tokens[number].from;
     }
     source.len() as u32
 }
 
+/// How many tokens stand before the header's name.
+fn tokens_before(source: &[u8], tokens: &[Token]) -> usize
+    requires { Each (IsSlice source.now) tokens.now }
+    ensures count { result ≡ spec.tokens_before source.now tokens.now }
+    ensures few { result ≤ 3 }
+{
+    if is_version(first_of(source, tokens)) {
+        return 3;
+    }
+    1
+}
+
 /// The places of the parts of the theory that the tokens of the source spell, found without its grammar: a command's name has a
-/// colon behind it, or is the first identifier behind `class` or `typedecl`; a method's word is an identifier behind `apply`,
-/// `by`, a parenthesis or a comma.
+/// colon behind it, or is the first identifier behind `class` or `typedecl`; that of a have stands behind its word; a method's
+/// word is an identifier behind `apply`, `by`, a parenthesis or a comma.
 pub fn found_among(alloc: Global, source: &[u8], tokens: &[Token]) -> Result<Places, AllocError>
     requires small { length source.now < 4294967296 }
     requires slices { Each (IsSlice source.now) tokens.now }
     ensures { IfOk result (λ p. seen_places p ≡ spec.found source.now tokens.now) }
 {
-    let imports = imports_in(alloc, source, rest_of(tokens, 2))?;
+    let before = tokens_before(source, tokens);
+    let imports = imports_in(alloc, source, rest_of(tokens, before + 1))?;
     let commands = commands_in(alloc, source, tokens)?;
     Ok(Places {
-        name: name_place(source, tokens),
+        name: place_at(source, tokens, before),
         imports,
         commands,
     })

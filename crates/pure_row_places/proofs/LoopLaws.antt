@@ -9,7 +9,7 @@ use Rattle.pure_session.specs.declared.reason.RefusedFile.{RefusedFile}
 use Rattle.pure_print.specs.declared.row.Row.{Row}
 use Rattle.pure_places.specs.Parts.{Part}
 use Rattle.pure_row_places.specs.Reasons.{first_some, behind, named_place, at_word}
-use Rattle.pure_row_places.specs.Lines.{Theory, Refusal, command_lines, refused_lines}
+use Rattle.pure_row_places.specs.Lines.{Theory, Refusal, part_lines, refused_lines}
 use Rattle.pure_row_places.specs.Headers.{IsLookedAtAs}
 use Rattle.pure_row_places.specs.declared.scan.RefusedScan.{RefusedScan}
 
@@ -32,14 +32,14 @@ named-step text i within found is =
     let next : i + 1 ≡ suc i = omega arith in
     ap (λ n. first_some found (named_place (drop n text))) next ∙ named-next text i within found is
 
-no-lines : (t : Theory) (ps : List (Part ℕ)) → command_lines t ps [] ≡ []
+no-lines : (t : Theory) (ps : List (Part ℕ)) → part_lines t ps [] ≡ []
 no-lines t [] = refl
 no-lines t (p ∷ ps) = refl
 
 -- Where no rows are left, all lines are put.
-pub commands-ended : (t : Theory) (ps : List (Part ℕ)) (rows : List Row) (place : ℕ) (text all : List ℕ) → length rows ≤ place → text ++ command_lines t ps (drop place rows) ≡ all → text ≡ all
-commands-ended t ps rows place text all none h =
-    sym (append-nil text) ∙ ap (λ z. text ++ z) (sym (ap (command_lines t ps) (drop_all place rows none) ∙ no-lines t ps)) ∙ h
+pub parts-ended : (t : Theory) (ps : List (Part ℕ)) (rows : List Row) (place : ℕ) (text all : List ℕ) → length rows ≤ place → text ++ part_lines t ps (drop place rows) ≡ all → text ≡ all
+parts-ended t ps rows place text all none h =
+    sym (append-nil text) ∙ ap (λ z. text ++ z) (sym (ap (part_lines t ps) (drop_all place rows none) ∙ no-lines t ps)) ∙ h
 
 no-refused : (fs : List Refusal) → refused_lines fs [] ≡ []
 no-refused [] = refl

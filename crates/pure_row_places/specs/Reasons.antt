@@ -1,5 +1,5 @@
 -- What a row's reason says of its place.
-use Rattle.std.specs.Prelude.{ℕ, ◌+◌, ◌-◌, ◌*◌, Bool, true, false, ◌||◌, List, [], ◌∷◌, length, take, drop, codes, Option, Some, None, if◌then◌else◌, get_or, nat_eq, ◌==◌}
+use Rattle.std.specs.Prelude.{ℕ, ◌+◌, ◌-◌, ◌*◌, Bool, true, false, ◌||◌, ◌&&◌, List, [], ◌∷◌, length, take, drop, codes, Option, Some, None, if◌then◌else◌, get_or, nat_eq, ◌==◌}
 use Rattle.std.specs.Cmp.Lexicographic.{pointwise}
 use Rattle.pure_grammar.specs.Tokens.Bytes.{is_digit}
 use Rattle.pure_grammar.specs.Theories.Lexeme.{same}
@@ -29,6 +29,9 @@ too_many_files = codes ": too many files"
 unfoldable pub theory_word : List ℕ
 theory_word = codes "theory "
 
+unfoldable pub lemma_word : List ℕ
+lemma_word = codes "lemma "
+
 -- the text begins so
 abbrev pub begins : List ℕ → List ℕ → Bool
 begins front text = pointwise nat_eq (take (length front) text) front
@@ -55,6 +58,10 @@ abbrev pub is_failed : RowStatus → Bool
 is_failed Failed = true
 is_failed _ = false
 
+-- The row refuses a lemma itself, and no have of it.
+abbrev pub refuses_lemma : Row → Bool
+refuses_lemma row = is_refused row.status && begins lemma_word row.head
+
 -- the place that the row's reason itself names
 abbrev pub reason_place : Row → Option (List ℕ)
 reason_place row = if is_refused row.status then named_place row.tail else None
@@ -77,7 +84,7 @@ value_in (Some text) = front_value 0 text
 abbrev pub failed_step : Row → ℕ
 failed_step row = if is_failed row.status then value_in (behind step_word row.tail) else 0
 
--- the place of the step with this number, counted from 1; of step 0, that of the command's name
+-- the place of the step with this number, counted from 1; of step 0, that of the name
 abbrev pub step_place : Part ℕ → (step : ℕ) → ℕ
 step_place p step = if step == 0 then p.name else get_or p.steps (step - 1) p.name
 

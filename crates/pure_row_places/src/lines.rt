@@ -1,9 +1,9 @@
 //! Lines of rows with their places.
-ghost use Rattle.std.specs.Prelude.{◌≡◌, ◌++◌, ◌∷◌, ◌≤◌, List, ℕ, IfOk, OnOk, drop, length, take};
+ghost use Rattle.std.specs.Prelude.{◌≡◌, ◌++◌, [], ◌∷◌, ◌≤◌, List, ℕ, IfOk, OnOk, drop, length, map, take};
 ghost use Rattle.std.specs.Fmt.{decimal};
 ghost use Rattle.pure_print.specs.RowText.{row_text};
 ghost use Rattle.pure_print.specs.declared.row.Row as print;
-ghost use Rattle.pure_places.specs.Seen.{seen_part, seen_places};
+ghost use Rattle.pure_places.specs.Seen.{seen_part, seen_command, seen_places};
 ghost use Rattle.pure_places.specs.Parts as parts;
 ghost use Rattle.pure_row_places.specs.Lines as spec;
 ghost use Rattle.pure_row_places.specs.Reasons as reasons;
@@ -11,9 +11,9 @@ ghost use Rattle.pure_row_places.specs.Cursors.{IsAt};
 ghost use Rattle.pure_row_places.specs.Scans.{seen_scan, seen_refusal, seen_scans, seen_refusals};
 
 use crate::cursor::{Cursor, beginning, moved};
-use crate::reasons::{header_place, reason_place, step_place};
+use crate::reasons::{header_place, reason_place, refuses_lemma, step_place};
 use crate::scan::{RefusedScan, Scan};
-use pure_places::Part;
+use pure_places::{CommandParts, Part};
 use pure_print::{Row, print_row};
 use pure_text::Text;
 use std::alloc::{AllocError, Global};
@@ -87,7 +87,7 @@ fn push_first(
     }
 }
 
-/// Puts the line of a command's row.
+/// Puts the line of the row of a command or a have.
 fn push_command(
     alloc: Global,
     text: &mut Vec<u8>,
@@ -180,6 +180,94 @@ fn is_barred(theory: &Text, rows: &[Row]) -> bool
     }
 }
 
+/// Whether the first row refuses a lemma itself.
+fn is_lemma_refused(rows: &[Row]) -> bool
+    ensures { result ≡ spec.is_lemma_refused rows.now }
+{
+    if rows.is_empty() {
+        return false;
+    }
+    refuses_lemma(&rows[0])
+}
+
+/// The haves of a command that have rows.
+fn shown_haves<'c>(command: &'c CommandParts, rows: &[Row]) -> &'c [Part]
+    ensures { map seen_part result.now ≡ spec.shown_haves (seen_command command.now) rows.now }
+{
+    if is_lemma_refused(rows) {
+        return &[];
+    }
+    command.haves.as_slice()
+}
+
+/// Puts the lines of these commands and haves.
+fn push_parts(
+    alloc: Global,
+    text: &mut Vec<u8>,
+    theory: &Scan,
+    cursor: Cursor,
+    parts: &[Part],
+    rows: &[Row],
+) -> Result<Cursor, AllocError>
+    requires { IsAt theory.now.source cursor }
+    ensures text { IfOk result (λ _. text.new.items ≡ text.old.items ++ spec.part_lines (seen_scan theory.now) (map seen_part parts.now) rows.now) }
+    ensures cursor { IfOk result (IsAt theory.now.source) }
+{
+    let mut cursor = cursor;
+    for place in 0..parts.len() {
+        if place >= rows.len() {
+            return Ok(cursor);
+        }
+        cursor = push_command(alloc, text, theory, cursor, &parts[place], &rows[place])?;
+    }
+    Ok(cursor)
+}
+
+/// Puts the line of a command behind those of its haves.
+fn push_own(
+    alloc: Global,
+    text: &mut Vec<u8>,
+    theory: &Scan,
+    cursor: Cursor,
+    own: &Part,
+    rows: &[Row],
+) -> Result<Cursor, AllocError>
+    requires { IsAt theory.now.source cursor }
+    ensures text { IfOk result (λ _. text.new.items ≡ text.old.items ++ spec.part_lines (seen_scan theory.now) (seen_part own.now ∷ []) rows.now) }
+    ensures cursor { IfOk result (IsAt theory.now.source) }
+{
+    if rows.is_empty() {
+        return Ok(cursor);
+    }
+    push_command(alloc, text, theory, cursor, own, &rows[0])
+}
+
+/// Puts the lines of a command's rows.
+fn push_command_rows(
+    alloc: Global,
+    text: &mut Vec<u8>,
+    theory: &Scan,
+    cursor: Cursor,
+    command: &CommandParts,
+    rows: &[Row],
+) -> Result<Cursor, AllocError>
+    requires { IsAt theory.now.source cursor }
+    ensures text { IfOk result (λ _. text.new.items ≡ text.old.items ++ spec.command_lines (seen_scan theory.now) (seen_command command.now) rows.now) }
+    ensures cursor { IfOk result (IsAt theory.now.source) }
+{
+    let haves = shown_haves(command, rows);
+    let cursor = push_parts(alloc, text, theory, cursor, haves, rows)?;
+    let behind = rest_of(rows, haves.len());
+    push_own(alloc, text, theory, cursor, &command.own, behind)
+}
+
+/// The rows behind those of a command.
+fn behind_command<'r>(command: &CommandParts, rows: &'r [Row]) -> &'r [Row]
+    ensures { result.now ≡ spec.behind_command (seen_command command.now) rows.now }
+{
+    rest_of(rows, shown_haves(command, rows).len() + 1)
+}
+
 /// Puts the lines of a theory's commands.
 fn push_commands(
     alloc: Global,
@@ -187,35 +275,52 @@ fn push_commands(
     theory: &Scan,
     rows: &[Row],
 ) -> Result<(), AllocError>
-    ensures { IfOk result (λ _. text.new.items ≡ text.old.items ++ spec.command_lines (seen_scan theory.now) (seen_scan theory.now).places.commands rows.now) }
+    ensures { IfOk result (λ _. text.new.items ≡ text.old.items ++ spec.commands_lines (seen_scan theory.now) (seen_scan theory.now).places.commands rows.now) }
 {
-    let parts = theory.places.commands.as_slice();
+    let commands = theory.places.commands.as_slice();
     let mut cursor = beginning();
-    for place in 0..parts.len() {
-        if place >= rows.len() {
-            return Ok(());
-        }
-        cursor = push_command(alloc, text, theory, cursor, &parts[place], &rows[place])?;
+    let mut rest = rows;
+    for command in commands {
+        cursor = push_command_rows(alloc, text, theory, cursor, command, rest)?;
+        rest = behind_command(command, rest);
     }
     Ok(())
 }
 
-/// Puts the lines of a theory, and tells how many rows it has.
+/// The rows behind those of the commands.
+fn behind_commands<'r>(commands: &[CommandParts], rows: &'r [Row]) -> &'r [Row]
+    ensures { result.now ≡ spec.behind_commands (map seen_command commands.now) rows.now }
+{
+    let mut rest = rows;
+    for command in commands {
+        rest = behind_command(command, rest);
+    }
+    rest
+}
+
+/// Puts the lines of a theory.
 fn push_theory(
     alloc: Global,
     text: &mut Vec<u8>,
     theory: &Scan,
     rows: &[Row],
-) -> Result<usize, AllocError>
-    ensures count { IfOk result (λ n. n ≡ spec.row_count (seen_scan theory.now) rows.now) }
-    ensures lines { IfOk result (λ _. text.new.items ≡ text.old.items ++ spec.theory_lines (seen_scan theory.now) rows.now) }
+) -> Result<(), AllocError>
+    ensures { IfOk result (λ _. text.new.items ≡ text.old.items ++ spec.theory_lines (seen_scan theory.now) rows.now) }
 {
     if is_barred(&theory.name, rows) {
-        push_refused_theory(alloc, text, theory, &rows[0])?;
-        return Ok(1);
+        return push_refused_theory(alloc, text, theory, &rows[0]);
     }
-    push_commands(alloc, text, theory, rows)?;
-    Ok(theory.places.commands.len())
+    push_commands(alloc, text, theory, rows)
+}
+
+/// The rows behind those of a theory.
+fn behind_theory<'r>(theory: &Scan, rows: &'r [Row]) -> &'r [Row]
+    ensures { result.now ≡ spec.behind_theory (seen_scan theory.now) rows.now }
+{
+    if is_barred(&theory.name, rows) {
+        return rest_of(rows, 1);
+    }
+    behind_commands(theory.places.commands.as_slice(), rows)
 }
 
 /// Puts the lines of the files that are refused.
@@ -253,8 +358,8 @@ pub fn push_lines(
 {
     let mut rest = rows;
     for theory in theories {
-        let count = push_theory(alloc, text, theory, rest)?;
-        rest = rest_of(rest, count);
+        push_theory(alloc, text, theory, rest)?;
+        rest = behind_theory(theory, rest);
     }
     push_refused_files(alloc, text, refused, rest)?;
     Ok(())

@@ -56,6 +56,17 @@ pub(crate) fn reason_place(row: &Row) -> Option<&[u8]>
     }
 }
 
+/// Whether the row refuses a lemma itself, and no have of it.
+#[tactic(auto, unfolding(crate::specs::Reasons::lemma_word))]
+pub(crate) fn refuses_lemma(row: &Row) -> bool
+    ensures { result ≡ spec.refuses_lemma row.now }
+{
+    match row.status {
+        RowStatus::Refused => row.head.bytes().starts_with(b"lemma "),
+        _ => false,
+    }
+}
+
 /// Whether the byte is a digit.
 #[tactic(auto, unfolding(pure_grammar::specs::Tokens::Bytes::is_digit))]
 fn is_digit(byte: u8) -> bool

@@ -7,7 +7,7 @@ use Rattle.pure_grammar.specs.Theories.TheoryText.{TheoryText}
 use Rattle.pure_grammar.specs.Theories.Lexeme.{Lexeme, Ends, lexeme, lexemes}
 use Rattle.pure_grammar.specs.Theories.Outer.{SpellsTheory, HasSyntaxFault, place_of}
 use Rattle.pure_grammar.specs.Theories.Reader as spec
-use Rattle.pure_grammar.specs.Theories.Reader.{AtStart, AtLast, Through, Stuck, goes_on, next, run, expected}
+use Rattle.pure_grammar.specs.Theories.Reader.{AtStart, AtLast, Stuck, goes_on, next, run, expected}
 use Rattle.pure_grammar.proofs.FaultLemmas.{Wrong, goes-wrong, Gets-IsTheory, is_last}
 use Rattle.pure_grammar.proofs.Places.{place_of-token, place_of-end}
 pub use Rattle.pure_grammar.proofs.Places.{slice-at}
@@ -18,9 +18,11 @@ use Rattle.pure_script.specs.declared.state.Front.TheVariants as front
 
 pub is_last-seen : (s : State) → is_last (seen_state s) ≡ false
 is_last-seen (state.InFront front.AtStart) = refl
-is_last-seen (state.InFront front.AtTheoryName) = refl
-is_last-seen (state.InFront (front.AfterTheoryName name)) = refl
-is_last-seen (state.InFront (front.AtImport name)) = refl
+is_last-seen (state.InFront front.AtVersion) = refl
+is_last-seen (state.InFront (front.AfterVersion version)) = refl
+is_last-seen (state.InFront (front.AtTheoryName version)) = refl
+is_last-seen (state.InFront (front.AfterTheoryName version name)) = refl
+is_last-seen (state.InFront (front.AtImport version name)) = refl
 is_last-seen (state.InFront (front.AfterImport header)) = refl
 is_last-seen (state.InBody header commands place) = refl
 

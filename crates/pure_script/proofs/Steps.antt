@@ -6,7 +6,7 @@ use Rattle.pure_script.specs.declared.lexeme.Lexeme.{Lexeme}
 use Rattle.pure_script.specs.declared.lexeme.Lexeme.TheVariants.{Reserved, Signed, Plain, Dotted, Variable, Numeral, Quoted, Other}
 use Rattle.pure_script.specs.Lexemes.{seen_lexeme}
 
-pub body_next_same : (h : Header) (cs : List Command) (p : Place) (l : Lexeme) → body_next h cs p (seen_lexeme l) ≡ body_state h cs (turn p (seen_lexeme l))
+pub body_next_same : (h : Header) (cs : List Command) (p : Place) (l : Lexeme) → body_next h cs p (seen_lexeme l) ≡ body_state h cs (turn h.version p (seen_lexeme l))
 body_next_same h cs p (Reserved word) = refl
 body_next_same h cs p (Signed sign) = refl
 body_next_same h cs p (Plain text at) = refl

@@ -1,13 +1,15 @@
 -- The places and turns of the reader, as contracts see them.
-use Rattle.std.specs.Prelude.{[], Option, Some, None}
+use Rattle.std.specs.Prelude.{map, Option, Some, None}
 use Rattle.pure_grammar.specs.Theories.TheoryText as tree
 use Rattle.pure_grammar.specs.Theories.Lexeme.{Lexeme}
 use Rattle.pure_grammar.specs.Theories.Reader as spec
-use Rattle.pure_script.specs.Seen.{span, sorts, seen_steps, seen_command}
+use Rattle.pure_script.specs.Seen.{span, sorts, seen_steps, seen_have, seen_command}
 use Rattle.pure_script.specs.declared.place.FactMethod.{FactMethod}
 use Rattle.pure_script.specs.declared.place.FactMethod.TheVariants as method
+use Rattle.pure_script.specs.declared.place.Subject.{Subject}
+use Rattle.pure_script.specs.declared.place.Subject.TheVariants as subject
 use Rattle.pure_script.specs.declared.place.ProofPlace.{ProofPlace}
-use Rattle.pure_script.specs.declared.place.ProofPlace.TheVariants.{AtStep, AtNumber, AtMethod, AtBasic, AfterBasic, AtFact, AtUnfolded, AfterUnfolded}
+use Rattle.pure_script.specs.declared.place.ProofPlace.TheVariants.{AtProof, AtHave, AfterHave, AtHaveText, AtStep, AtNumber, AtMethod, AtBasic, AfterBasic, AtFact, AtUnfolded, AfterUnfolded}
 use Rattle.pure_script.specs.declared.place.Place.{Place}
 use Rattle.pure_script.specs.declared.place.Place.TheVariants.{AtHead, AtRest}
 use Rattle.pure_script.specs.declared.place.HeadPlace.{HeadPlace}
@@ -31,26 +33,54 @@ use Rattle.pure_script.specs.declared.place.NamedPlace.{NamedPlace}
 use Rattle.pure_script.specs.declared.place.NamedPlace.TheVariants as named
 use Rattle.pure_script.specs.declared.place.LemmaPlace.{LemmaPlace}
 use Rattle.pure_script.specs.declared.place.LemmaPlace.TheVariants.{AtLemma, AfterLemma, AtLemmaText}
+use Rattle.pure_script.specs.declared.place.OpenHave.{OpenHave}
 use Rattle.pure_script.specs.declared.place.Goal.{Goal}
 use Rattle.pure_script.specs.declared.place.Course.{Course}
 use Rattle.pure_script.specs.declared.place.Course.TheVariants as course
 use Rattle.pure_script.specs.declared.place.Turn.{Turn}
 use Rattle.pure_script.specs.declared.place.Turn.TheVariants.{Moves, Adds, Refuses}
 
+-- What a lexeme leads to from a place at which no have may stand: the same in a file of any version.
+abbrev pub any_turn : spec.Place → Lexeme → spec.Turn
+any_turn place l = spec.turn 1 place l
+
 abbrev pub seen_method : FactMethod → spec.FactMethod
 seen_method method.Rule = spec.OfRule
 seen_method method.Erule = spec.OfErule
 seen_method method.Drule = spec.OfDrule
 
-abbrev pub seen_proof_place : Goal → ProofPlace → spec.ProofPlace
-seen_proof_place goal AtStep = spec.AtStep
-seen_proof_place goal AtNumber = spec.AtNumber
-seen_proof_place goal (AtMethod x0) = spec.AtMethod x0
-seen_proof_place goal (AtBasic x0) = spec.AtBasic x0
-seen_proof_place goal (AfterBasic x0) = spec.AfterBasic x0
-seen_proof_place goal (AtFact x0 x1) = spec.AtFact x0 (seen_method x1)
-seen_proof_place goal (AtUnfolded x0) = spec.AtUnfolded x0
-seen_proof_place goal (AfterUnfolded x0) = spec.AfterUnfolded x0 goal.facts
+-- the lemma with its haves so far
+abbrev pub seen_lemma : Goal → spec.OpenLemma
+seen_lemma goal = record { name = goal.name; prop = span goal.prop; haves = map seen_have goal.haves.items }
+
+-- what a proof is of
+abbrev pub seen_subject : Subject → spec.OpenLemma → OpenHave → spec.Goal
+seen_subject subject.Lemma lemma have = spec.OfLemma lemma
+seen_subject subject.Have lemma have = spec.OfHave lemma have.name (span have.prop)
+
+-- what the proof that is read is of
+abbrev pub seen_goal : Goal → spec.Goal
+seen_goal goal = seen_subject goal.subject (seen_lemma goal) goal.have
+
+abbrev pub in_proof : Goal → spec.ProofPlace → spec.Place
+in_proof goal place = spec.InProof (seen_goal goal) (seen_steps goal.script.items) place
+
+abbrev pub goal_turn : Goal → spec.ProofPlace → Lexeme → spec.Turn
+goal_turn goal place l = spec.proof_turn (seen_goal goal) (seen_steps goal.script.items) place l
+
+abbrev pub seen_proof : Goal → ProofPlace → spec.Place
+seen_proof goal AtProof = spec.AtProof (seen_lemma goal)
+seen_proof goal AtHave = spec.AtHave (seen_lemma goal)
+seen_proof goal AfterHave = spec.AfterHave (seen_lemma goal) goal.have.name
+seen_proof goal AtHaveText = spec.AtHaveText (seen_lemma goal) goal.have.name
+seen_proof goal AtStep = in_proof goal spec.AtStep
+seen_proof goal AtNumber = in_proof goal spec.AtNumber
+seen_proof goal (AtMethod x0) = in_proof goal (spec.AtMethod x0)
+seen_proof goal (AtBasic x0) = in_proof goal (spec.AtBasic x0)
+seen_proof goal (AfterBasic x0) = in_proof goal (spec.AfterBasic x0)
+seen_proof goal (AtFact x0 x1) = in_proof goal (spec.AtFact x0 (seen_method x1))
+seen_proof goal (AtUnfolded x0) = in_proof goal (spec.AtUnfolded x0)
+seen_proof goal (AfterUnfolded x0) = in_proof goal (spec.AfterUnfolded x0 goal.facts)
 
 abbrev pub seen_class : NewClass → AbovePlace → spec.Place
 seen_class class above_place.AfterClassName = spec.AfterClassName class.name
@@ -112,7 +142,7 @@ abbrev pub seen_rest : RestPlace → spec.Place
 seen_rest (InClass class place) = seen_class class place
 seen_rest (InDomains domains place) = seen_domains domains place
 seen_rest (OfItem place) = seen_item_place place
-seen_rest (InProof goal place) = spec.InProof goal.name (span goal.prop) (seen_steps goal.script.items) (seen_proof_place goal place)
+seen_rest (InProof goal place) = seen_proof goal place
 
 abbrev pub seen_place : Place → spec.Place
 seen_place (AtHead place) = seen_head place
@@ -143,7 +173,7 @@ abbrev pub seen_ended : RestPlace → Lexeme → spec.Turn
 seen_ended (InClass class place) l = spec.leave_with (tree.Class class.name class.above.items) (spec.command_begun l)
 seen_ended (InDomains domains place) l = spec.Moves (spec.AtArityClass domains.con (sorts domains.doms.items))
 seen_ended (OfItem place) l = seen_added place
-seen_ended (InProof goal place) l = spec.Adds (tree.Lemma goal.name (span goal.prop) [] (seen_steps goal.script.items)) spec.AtCommand
+seen_ended (InProof goal place) l = spec.proved (spec.OfLemma (seen_lemma goal)) (seen_steps goal.script.items)
 
 -- where a token of the rest of a command leads to, by the place behind it
 abbrev pub seen_course : Course → RestPlace → Lexeme → spec.Turn

@@ -9,16 +9,18 @@ use Rattle.pure_script.specs.declared.state.Header.{Header}
 use Rattle.pure_script.specs.declared.state.State.{State}
 use Rattle.pure_script.specs.declared.state.State.TheVariants.{InFront, InBody}
 use Rattle.pure_script.specs.declared.state.Front.{Front}
-use Rattle.pure_script.specs.declared.state.Front.TheVariants.{AtStart, AtTheoryName, AfterTheoryName, AtImport, AfterImport}
+use Rattle.pure_script.specs.declared.state.Front.TheVariants.{AtStart, AtVersion, AfterVersion, AtTheoryName, AfterTheoryName, AtImport, AfterImport}
 
 abbrev pub seen_header : Header → spec.Header
-seen_header h = record { name = h.name; imports = h.imports }
+seen_header h = record { version = h.version; name = h.name; imports = h.imports }
 
 abbrev pub seen_front : Front → spec.State
 seen_front AtStart = spec.AtStart
-seen_front AtTheoryName = spec.AtTheoryName
-seen_front (AfterTheoryName name) = spec.AfterTheoryName name
-seen_front (AtImport name) = spec.AtImport name
+seen_front AtVersion = spec.AtVersion
+seen_front (AfterVersion version) = spec.AfterVersion version
+seen_front (AtTheoryName version) = spec.AtTheoryName version
+seen_front (AfterTheoryName version name) = spec.AfterTheoryName version name
+seen_front (AtImport version name) = spec.AtImport version name
 seen_front (AfterImport header) = spec.AfterImport (seen_header header)
 
 abbrev pub seen_state : State → spec.State

@@ -2,7 +2,7 @@
 ghost use Rattle.std.specs.Prelude.{◌≡◌, IfOk, [], ◌∷◌, ◌++◌};
 ghost use Rattle.pure_grammar.specs.Theories.Reader as spec;
 ghost use Rattle.pure_script.specs.Seen.{sorts};
-ghost use Rattle.pure_script.specs.Places.{seen_turn, seen_domains, seen_domains_course};
+ghost use Rattle.pure_script.specs.Places.{seen_turn, seen_domains, seen_domains_course, any_turn};
 ghost use Rattle.pure_script.specs.Lexemes.{seen_lexeme};
 
 use crate::lexeme::{Lexeme, is_sign};
@@ -18,7 +18,7 @@ use std::mem;
 
 /// Behind `arities`.
 pub(crate) fn at_constructor(alloc: Global, lexeme: Lexeme<'_>) -> Result<Turn, AllocError>
-    ensures { IfOk result (λ turn. seen_turn turn ≡ spec.turn spec.AtConstructor (seen_lexeme lexeme.entry)) }
+    ensures { IfOk result (λ turn. seen_turn turn ≡ any_turn spec.AtConstructor (seen_lexeme lexeme.entry)) }
 {
     match name(alloc, lexeme)? {
         None => Ok(Turn::Refuses),
@@ -30,7 +30,7 @@ pub(crate) fn at_constructor(alloc: Global, lexeme: Lexeme<'_>) -> Result<Turn, 
 
 /// Behind the constructor.
 pub(crate) fn after_constructor(con: Text, lexeme: Lexeme<'_>) -> Turn
-    ensures { seen_turn result ≡ spec.turn (spec.AfterConstructor con) (seen_lexeme lexeme.entry) }
+    ensures { seen_turn result ≡ any_turn (spec.AfterConstructor con) (seen_lexeme lexeme.entry) }
 {
     let so = is_sign(Sign::DoubleColon, lexeme);
     moves_if(so, of_arity(ArityPlace::AtDomains { con }))
@@ -43,7 +43,7 @@ pub(crate) fn at_arity_class(
     doms: Vec<Vec<Text>>,
     lexeme: Lexeme<'_>,
 ) -> Result<Turn, AllocError>
-    ensures { IfOk result (λ turn. seen_turn turn ≡ spec.turn (spec.AtArityClass con (sorts doms.items)) (seen_lexeme lexeme.entry)) }
+    ensures { IfOk result (λ turn. seen_turn turn ≡ any_turn (spec.AtArityClass con (sorts doms.items)) (seen_lexeme lexeme.entry)) }
 {
     match name(alloc, lexeme)? {
         None => Ok(Turn::Refuses),
@@ -56,7 +56,7 @@ pub(crate) fn at_arity_class(
 
 /// Behind `::`, where domains may stand.
 pub(crate) fn at_domains(alloc: Global, con: Text, lexeme: Lexeme<'_>) -> Result<Turn, AllocError>
-    ensures { IfOk result (λ turn. seen_turn turn ≡ spec.turn (spec.AtDomains con) (seen_lexeme lexeme.entry)) }
+    ensures { IfOk result (λ turn. seen_turn turn ≡ any_turn (spec.AtDomains con) (seen_lexeme lexeme.entry)) }
 {
     let doms = Vec::new(alloc);
     if is_sign(Sign::OpenParenthesis, lexeme) {
@@ -97,7 +97,7 @@ fn at_sort(
     place: &mut SortPlace,
     lexeme: Lexeme<'_>,
 ) -> Result<Course, AllocError>
-    ensures { IfOk result (λ course. seen_domains_course course domains.new place.new (seen_lexeme lexeme.entry) ≡ spec.turn (spec.AtSort domains.old.con (sorts domains.old.doms.items)) (seen_lexeme lexeme.entry)) }
+    ensures { IfOk result (λ course. seen_domains_course course domains.new place.new (seen_lexeme lexeme.entry) ≡ any_turn (spec.AtSort domains.old.con (sorts domains.old.doms.items)) (seen_lexeme lexeme.entry)) }
 {
     if is_sign(Sign::OpenBrace, lexeme) {
         *place = SortPlace::AtFirstClass;
@@ -115,7 +115,7 @@ fn at_sort(
 
 /// Behind a sort.
 fn after_sort(domains: &mut Domains, place: &mut SortPlace, lexeme: Lexeme<'_>) -> Course
-    ensures { seen_domains_course result domains.new place.new (seen_lexeme lexeme.entry) ≡ spec.turn (spec.AfterSort domains.old.con (sorts domains.old.doms.items)) (seen_lexeme lexeme.entry) }
+    ensures { seen_domains_course result domains.new place.new (seen_lexeme lexeme.entry) ≡ any_turn (spec.AfterSort domains.old.con (sorts domains.old.doms.items)) (seen_lexeme lexeme.entry) }
 {
     if is_sign(Sign::Comma, lexeme) {
         *place = SortPlace::AtSort;
@@ -134,7 +134,7 @@ fn at_first_class(
     place: &mut SortPlace,
     lexeme: Lexeme<'_>,
 ) -> Result<Course, AllocError>
-    ensures { IfOk result (λ course. seen_domains_course course domains.new place.new (seen_lexeme lexeme.entry) ≡ spec.turn (spec.AtFirstClass domains.old.con (sorts domains.old.doms.items)) (seen_lexeme lexeme.entry)) }
+    ensures { IfOk result (λ course. seen_domains_course course domains.new place.new (seen_lexeme lexeme.entry) ≡ any_turn (spec.AtFirstClass domains.old.con (sorts domains.old.doms.items)) (seen_lexeme lexeme.entry)) }
 {
     if is_sign(Sign::CloseBrace, lexeme) {
         add_sort(domains, Vec::new(alloc))?;
@@ -158,7 +158,7 @@ fn at_next_class(
     place: &mut SortPlace,
     lexeme: Lexeme<'_>,
 ) -> Result<Course, AllocError>
-    ensures { IfOk result (λ course. seen_domains_course course domains.new place.new (seen_lexeme lexeme.entry) ≡ spec.turn (spec.AtNextClass domains.old.con (sorts domains.old.doms.items) domains.old.sort.items) (seen_lexeme lexeme.entry)) }
+    ensures { IfOk result (λ course. seen_domains_course course domains.new place.new (seen_lexeme lexeme.entry) ≡ any_turn (spec.AtNextClass domains.old.con (sorts domains.old.doms.items) domains.old.sort.items) (seen_lexeme lexeme.entry)) }
 {
     match name(alloc, lexeme)? {
         None => Ok(Course::Refuses),
@@ -177,7 +177,7 @@ fn after_class(
     place: &mut SortPlace,
     lexeme: Lexeme<'_>,
 ) -> Result<Course, AllocError>
-    ensures { IfOk result (λ course. seen_domains_course course domains.new place.new (seen_lexeme lexeme.entry) ≡ spec.turn (spec.AfterClass domains.old.con (sorts domains.old.doms.items) domains.old.sort.items) (seen_lexeme lexeme.entry)) }
+    ensures { IfOk result (λ course. seen_domains_course course domains.new place.new (seen_lexeme lexeme.entry) ≡ any_turn (spec.AfterClass domains.old.con (sorts domains.old.doms.items) domains.old.sort.items) (seen_lexeme lexeme.entry)) }
 {
     if is_sign(Sign::Comma, lexeme) {
         *place = SortPlace::AtNextClass;
@@ -200,7 +200,7 @@ pub(crate) fn domains_course(
     place: &mut SortPlace,
     lexeme: Lexeme<'_>,
 ) -> Result<Course, AllocError>
-    ensures { IfOk result (λ course. seen_domains_course course domains.new place.new (seen_lexeme lexeme.entry) ≡ spec.turn (seen_domains domains.old place.old) (seen_lexeme lexeme.entry)) }
+    ensures { IfOk result (λ course. seen_domains_course course domains.new place.new (seen_lexeme lexeme.entry) ≡ any_turn (seen_domains domains.old place.old) (seen_lexeme lexeme.entry)) }
 {
     match *place {
         SortPlace::AtSort => at_sort(alloc, domains, place, lexeme),

@@ -2,7 +2,7 @@
 ghost use Rattle.std.specs.Prelude.{◌≡◌, IfOk};
 ghost use Rattle.pure_grammar.specs.Theories.TheoryText.{Class};
 ghost use Rattle.pure_grammar.specs.Theories.Reader as spec;
-ghost use Rattle.pure_script.specs.Places.{seen_turn, seen_class, seen_class_course};
+ghost use Rattle.pure_script.specs.Places.{seen_turn, seen_class, seen_class_course, any_turn};
 ghost use Rattle.pure_script.specs.Lexemes.{seen_lexeme};
 
 use crate::lexeme::{Lexeme, is_sign};
@@ -15,7 +15,7 @@ use std::alloc::{AllocError, Global};
 
 /// Behind `class`.
 pub(crate) fn at_class_name(alloc: Global, lexeme: Lexeme<'_>) -> Result<Turn, AllocError>
-    ensures { IfOk result (λ turn. seen_turn turn ≡ spec.turn spec.AtClassName (seen_lexeme lexeme.entry)) }
+    ensures { IfOk result (λ turn. seen_turn turn ≡ any_turn spec.AtClassName (seen_lexeme lexeme.entry)) }
 {
     match ident(alloc, lexeme)? {
         None => Ok(Turn::Refuses),
@@ -39,7 +39,7 @@ fn after_class_name(
     place: &mut AbovePlace,
     lexeme: Lexeme<'_>,
 ) -> Course
-    ensures { seen_class_course result class.new place.new (seen_lexeme lexeme.entry) ≡ spec.turn (spec.AfterClassName class.old.name) (seen_lexeme lexeme.entry) }
+    ensures { seen_class_course result class.new place.new (seen_lexeme lexeme.entry) ≡ any_turn (spec.AfterClassName class.old.name) (seen_lexeme lexeme.entry) }
 {
     class.above = Vec::new(alloc);
     if is_sign(Sign::Less, lexeme) {
@@ -56,7 +56,7 @@ fn at_above(
     place: &mut AbovePlace,
     lexeme: Lexeme<'_>,
 ) -> Result<Course, AllocError>
-    ensures { IfOk result (λ course. seen_class_course course class.new place.new (seen_lexeme lexeme.entry) ≡ spec.turn (spec.AtAbove class.old.name) (seen_lexeme lexeme.entry)) }
+    ensures { IfOk result (λ course. seen_class_course course class.new place.new (seen_lexeme lexeme.entry) ≡ any_turn (spec.AtAbove class.old.name) (seen_lexeme lexeme.entry)) }
 {
     match name(alloc, lexeme)? {
         None => Ok(Course::Refuses),
@@ -77,7 +77,7 @@ fn after_above(
     place: &mut AbovePlace,
     lexeme: Lexeme<'_>,
 ) -> Result<Course, AllocError>
-    ensures { IfOk result (λ course. seen_class_course course class.new place.new (seen_lexeme lexeme.entry) ≡ spec.turn (spec.AfterAbove class.old.name class.old.above.items) (seen_lexeme lexeme.entry)) }
+    ensures { IfOk result (λ course. seen_class_course course class.new place.new (seen_lexeme lexeme.entry) ≡ any_turn (spec.AfterAbove class.old.name class.old.above.items) (seen_lexeme lexeme.entry)) }
 {
     match name(alloc, lexeme)? {
         None => Ok(Course::Ends),
@@ -97,7 +97,7 @@ pub(crate) fn class_course(
     place: &mut AbovePlace,
     lexeme: Lexeme<'_>,
 ) -> Result<Course, AllocError>
-    ensures { IfOk result (λ course. seen_class_course course class.new place.new (seen_lexeme lexeme.entry) ≡ spec.turn (seen_class class.old place.old) (seen_lexeme lexeme.entry)) }
+    ensures { IfOk result (λ course. seen_class_course course class.new place.new (seen_lexeme lexeme.entry) ≡ any_turn (seen_class class.old place.old) (seen_lexeme lexeme.entry)) }
 {
     match *place {
         AbovePlace::AfterClassName => Ok(after_class_name(alloc, class, place, lexeme)),

@@ -2,7 +2,7 @@
 ghost use Rattle.std.specs.Prelude.{◌≡◌, IfOk};
 ghost use Rattle.pure_grammar.specs.Theories.Reader as spec;
 ghost use Rattle.pure_script.specs.Seen.{span};
-ghost use Rattle.pure_script.specs.Places.{seen_turn, seen_named, seen_item_place, seen_added_item, seen_added, seen_named_course, seen_item_course};
+ghost use Rattle.pure_script.specs.Places.{seen_turn, seen_named, seen_item_place, seen_added_item, seen_added, seen_named_course, seen_item_course, any_turn};
 ghost use Rattle.pure_script.specs.Lexemes.{seen_lexeme};
 
 use crate::lexeme::{Lexeme, is_sign, is_word, quote_in, type_in};
@@ -26,7 +26,7 @@ fn item(name: Text) -> Item
 
 /// Behind `consts`.
 fn at_item(alloc: Global, place: &mut ItemPlace, lexeme: Lexeme<'_>) -> Result<Course, AllocError>
-    ensures { IfOk result (λ course. seen_item_course course place.new (seen_lexeme lexeme.entry) ≡ spec.turn spec.AtItem (seen_lexeme lexeme.entry)) }
+    ensures { IfOk result (λ course. seen_item_course course place.new (seen_lexeme lexeme.entry) ≡ any_turn spec.AtItem (seen_lexeme lexeme.entry)) }
 {
     match ident(alloc, lexeme)? {
         None => Ok(Course::Refuses),
@@ -46,7 +46,7 @@ fn after_item_type(
     place: &mut ItemPlace,
     lexeme: Lexeme<'_>,
 ) -> Result<Course, AllocError>
-    ensures { IfOk result (λ course. seen_item_course course place.new (seen_lexeme lexeme.entry) ≡ spec.turn spec.AfterItemType (seen_lexeme lexeme.entry)) }
+    ensures { IfOk result (λ course. seen_item_course course place.new (seen_lexeme lexeme.entry) ≡ any_turn spec.AfterItemType (seen_lexeme lexeme.entry)) }
 {
     match ident(alloc, lexeme)? {
         None => Ok(Course::Leaves),
@@ -62,7 +62,7 @@ fn after_item_type(
 
 /// Behind `axiomatization`.
 fn at_where(place: &mut ItemPlace, lexeme: Lexeme<'_>) -> Course
-    ensures { seen_item_course result place.new (seen_lexeme lexeme.entry) ≡ spec.turn spec.AtWhere (seen_lexeme lexeme.entry) }
+    ensures { seen_item_course result place.new (seen_lexeme lexeme.entry) ≡ any_turn spec.AtWhere (seen_lexeme lexeme.entry) }
 {
     if is_word(Keyword::Where, lexeme) {
         *place = ItemPlace::AtAxiom;
@@ -73,7 +73,7 @@ fn at_where(place: &mut ItemPlace, lexeme: Lexeme<'_>) -> Course
 
 /// Where the name of an axiom stands.
 fn at_axiom(alloc: Global, place: &mut ItemPlace, lexeme: Lexeme<'_>) -> Result<Course, AllocError>
-    ensures { IfOk result (λ course. seen_item_course course place.new (seen_lexeme lexeme.entry) ≡ spec.turn spec.AtAxiom (seen_lexeme lexeme.entry)) }
+    ensures { IfOk result (λ course. seen_item_course course place.new (seen_lexeme lexeme.entry) ≡ any_turn spec.AtAxiom (seen_lexeme lexeme.entry)) }
 {
     match ident(alloc, lexeme)? {
         None => Ok(Course::Refuses),
@@ -89,7 +89,7 @@ fn at_axiom(alloc: Global, place: &mut ItemPlace, lexeme: Lexeme<'_>) -> Result<
 
 /// Behind the proposition of an axiom.
 fn after_axiom_text(place: &mut ItemPlace, lexeme: Lexeme<'_>) -> Course
-    ensures { seen_item_course result place.new (seen_lexeme lexeme.entry) ≡ spec.turn spec.AfterAxiomText (seen_lexeme lexeme.entry) }
+    ensures { seen_item_course result place.new (seen_lexeme lexeme.entry) ≡ any_turn spec.AfterAxiomText (seen_lexeme lexeme.entry) }
 {
     if is_word(Keyword::And, lexeme) {
         *place = ItemPlace::AtAxiom;
@@ -104,7 +104,7 @@ fn at_definition(
     place: &mut ItemPlace,
     lexeme: Lexeme<'_>,
 ) -> Result<Course, AllocError>
-    ensures { IfOk result (λ course. seen_item_course course place.new (seen_lexeme lexeme.entry) ≡ spec.turn spec.AtDefinition (seen_lexeme lexeme.entry)) }
+    ensures { IfOk result (λ course. seen_item_course course place.new (seen_lexeme lexeme.entry) ≡ any_turn spec.AtDefinition (seen_lexeme lexeme.entry)) }
 {
     match ident(alloc, lexeme)? {
         None => Ok(Course::Refuses),
@@ -120,7 +120,7 @@ fn at_definition(
 
 /// Behind the name of a constant.
 fn after_item(item: &Item, place: &mut NamedPlace, lexeme: Lexeme<'_>) -> Course
-    ensures { seen_named_course result item.now place.new (seen_lexeme lexeme.entry) ≡ spec.turn (spec.AfterItem item.now.name) (seen_lexeme lexeme.entry) }
+    ensures { seen_named_course result item.now place.new (seen_lexeme lexeme.entry) ≡ any_turn (spec.AfterItem item.now.name) (seen_lexeme lexeme.entry) }
 {
     if is_sign(Sign::DoubleColon, lexeme) {
         *place = NamedPlace::AtItemType;
@@ -131,7 +131,7 @@ fn after_item(item: &Item, place: &mut NamedPlace, lexeme: Lexeme<'_>) -> Course
 
 /// Behind the `::` of a constant.
 fn at_item_type(item: &mut Item, place: &mut NamedPlace, lexeme: Lexeme<'_>) -> Course
-    ensures { seen_named_course result item.new place.new (seen_lexeme lexeme.entry) ≡ spec.turn (spec.AtItemType item.old.name) (seen_lexeme lexeme.entry) }
+    ensures { seen_named_course result item.new place.new (seen_lexeme lexeme.entry) ≡ any_turn (spec.AtItemType item.old.name) (seen_lexeme lexeme.entry) }
 {
     match type_in(lexeme) {
         None => Course::Refuses,
@@ -145,7 +145,7 @@ fn at_item_type(item: &mut Item, place: &mut NamedPlace, lexeme: Lexeme<'_>) -> 
 
 /// Behind the name of an axiom.
 fn after_axiom(item: &Item, place: &mut NamedPlace, lexeme: Lexeme<'_>) -> Course
-    ensures { seen_named_course result item.now place.new (seen_lexeme lexeme.entry) ≡ spec.turn (spec.AfterAxiom item.now.name) (seen_lexeme lexeme.entry) }
+    ensures { seen_named_course result item.now place.new (seen_lexeme lexeme.entry) ≡ any_turn (spec.AfterAxiom item.now.name) (seen_lexeme lexeme.entry) }
 {
     if is_sign(Sign::Colon, lexeme) {
         *place = NamedPlace::AtAxiomText;
@@ -156,7 +156,7 @@ fn after_axiom(item: &Item, place: &mut NamedPlace, lexeme: Lexeme<'_>) -> Cours
 
 /// Behind the `:` of an axiom.
 fn at_axiom_text(item: &mut Item, place: &mut NamedPlace, lexeme: Lexeme<'_>) -> Course
-    ensures { seen_named_course result item.new place.new (seen_lexeme lexeme.entry) ≡ spec.turn (spec.AtAxiomText item.old.name) (seen_lexeme lexeme.entry) }
+    ensures { seen_named_course result item.new place.new (seen_lexeme lexeme.entry) ≡ any_turn (spec.AtAxiomText item.old.name) (seen_lexeme lexeme.entry) }
 {
     match quote_in(lexeme) {
         None => Course::Refuses,
@@ -170,7 +170,7 @@ fn at_axiom_text(item: &mut Item, place: &mut NamedPlace, lexeme: Lexeme<'_>) ->
 
 /// Behind the name that is defined.
 fn after_definition(item: &Item, place: &mut NamedPlace, lexeme: Lexeme<'_>) -> Course
-    ensures { seen_named_course result item.now place.new (seen_lexeme lexeme.entry) ≡ spec.turn (spec.AfterDefinition item.now.name) (seen_lexeme lexeme.entry) }
+    ensures { seen_named_course result item.now place.new (seen_lexeme lexeme.entry) ≡ any_turn (spec.AfterDefinition item.now.name) (seen_lexeme lexeme.entry) }
 {
     if is_sign(Sign::DoubleColon, lexeme) {
         *place = NamedPlace::AtDefinitionType;
@@ -181,7 +181,7 @@ fn after_definition(item: &Item, place: &mut NamedPlace, lexeme: Lexeme<'_>) -> 
 
 /// Behind the `::` of a definition.
 fn at_definition_type(item: &mut Item, place: &mut NamedPlace, lexeme: Lexeme<'_>) -> Course
-    ensures { seen_named_course result item.new place.new (seen_lexeme lexeme.entry) ≡ spec.turn (spec.AtDefinitionType item.old.name) (seen_lexeme lexeme.entry) }
+    ensures { seen_named_course result item.new place.new (seen_lexeme lexeme.entry) ≡ any_turn (spec.AtDefinitionType item.old.name) (seen_lexeme lexeme.entry) }
 {
     match type_in(lexeme) {
         None => Course::Refuses,
@@ -195,7 +195,7 @@ fn at_definition_type(item: &mut Item, place: &mut NamedPlace, lexeme: Lexeme<'_
 
 /// Behind the type of a definition.
 fn after_definition_type(item: &Item, place: &mut NamedPlace, lexeme: Lexeme<'_>) -> Course
-    ensures { seen_named_course result item.now place.new (seen_lexeme lexeme.entry) ≡ spec.turn (spec.AfterDefinitionType item.now.name (span item.now.typ)) (seen_lexeme lexeme.entry) }
+    ensures { seen_named_course result item.now place.new (seen_lexeme lexeme.entry) ≡ any_turn (spec.AfterDefinitionType item.now.name (span item.now.typ)) (seen_lexeme lexeme.entry) }
 {
     if is_word(Keyword::Where, lexeme) {
         *place = NamedPlace::AtDefinitionText;
@@ -206,7 +206,7 @@ fn after_definition_type(item: &Item, place: &mut NamedPlace, lexeme: Lexeme<'_>
 
 /// Behind the `where` of a definition.
 fn at_definition_text(item: &mut Item, place: &mut NamedPlace, lexeme: Lexeme<'_>) -> Course
-    ensures { seen_named_course result item.new place.new (seen_lexeme lexeme.entry) ≡ spec.turn (spec.AtDefinitionText item.old.name (span item.old.typ)) (seen_lexeme lexeme.entry) }
+    ensures { seen_named_course result item.new place.new (seen_lexeme lexeme.entry) ≡ any_turn (spec.AtDefinitionText item.old.name (span item.old.typ)) (seen_lexeme lexeme.entry) }
 {
     match quote_in(lexeme) {
         None => Course::Refuses,
@@ -220,7 +220,7 @@ fn at_definition_text(item: &mut Item, place: &mut NamedPlace, lexeme: Lexeme<'_
 
 /// How a token behind the name of an item goes on, with its place and what is read in place.
 fn named_course(item: &mut Item, place: &mut NamedPlace, lexeme: Lexeme<'_>) -> Course
-    ensures { seen_named_course result item.new place.new (seen_lexeme lexeme.entry) ≡ spec.turn (seen_named item.old place.old) (seen_lexeme lexeme.entry) }
+    ensures { seen_named_course result item.new place.new (seen_lexeme lexeme.entry) ≡ any_turn (seen_named item.old place.old) (seen_lexeme lexeme.entry) }
 {
     match *place {
         NamedPlace::AfterItem => after_item(item, place, lexeme),
@@ -241,7 +241,7 @@ pub(crate) fn item_course(
     place: &mut ItemPlace,
     lexeme: Lexeme<'_>,
 ) -> Result<Course, AllocError>
-    ensures { IfOk result (λ course. seen_item_course course place.new (seen_lexeme lexeme.entry) ≡ spec.turn (seen_item_place place.old) (seen_lexeme lexeme.entry)) }
+    ensures { IfOk result (λ course. seen_item_course course place.new (seen_lexeme lexeme.entry) ≡ any_turn (seen_item_place place.old) (seen_lexeme lexeme.entry)) }
 {
     match place {
         ItemPlace::AtItem => at_item(alloc, place, lexeme),

@@ -3,6 +3,7 @@
 
 mod arity;
 mod class;
+mod have;
 mod item;
 pub mod laws;
 mod lexeme;

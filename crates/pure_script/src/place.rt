@@ -8,7 +8,7 @@ ghost use Rattle.pure_script.specs.Lexemes.{seen_lexeme};
 
 use crate::lexeme::{Lexeme, ident_in, is_word, name_in, variable_in};
 use crate::texts::Texts;
-use crate::theory::{Command, Span, Step};
+use crate::theory::{Command, Have, Span, Step};
 use pure_grammar::Keyword;
 use pure_text::{Text, TextList};
 use std::alloc::{AllocError, Global};
@@ -21,9 +21,20 @@ pub(crate) enum FactMethod {
     Drule,
 }
 
-/// A place in a proof; `last` says that the method is that of `by`.
+/// What a proof is of: the lemma, or the have of it that stands open.
+#[derive(Clone, Copy)]
+pub(crate) enum Subject {
+    Lemma,
+    Have,
+}
+
+/// A place in a lemma, behind its statement; `last` says that the method is that of `by`.
 #[derive(Clone, Copy)]
 pub(crate) enum ProofPlace {
+    AtProof,
+    AtHave,
+    AfterHave,
+    AtHaveText,
     AtStep,
     AtNumber,
     AtMethod { last: bool },
@@ -34,11 +45,22 @@ pub(crate) enum ProofPlace {
     AfterUnfolded { last: bool },
 }
 
-/// A lemma with the steps of its proof so far, and the facts so far of the `unfold` that stands open.
+/// The name and the statement of a have, as far as they are read.
+#[derive(Drop)]
+pub(crate) struct OpenHave {
+    pub(crate) name: Text,
+    pub(crate) prop: Span,
+}
+
+/// A lemma with its haves so far and the one that stands open, the steps so far of the proof that is read, and the facts so
+/// far of the `unfold` that stands open.
 #[derive(Drop)]
 pub(crate) struct Goal {
     pub(crate) name: Text,
     pub(crate) prop: Span,
+    pub(crate) haves: Vec<Have>,
+    pub(crate) have: OpenHave,
+    pub(crate) subject: Subject,
     pub(crate) script: Vec<Step>,
     pub(crate) facts: TextList,
 }

@@ -1,16 +1,16 @@
 //! Lemmas and their proofs.
 ghost use Rattle.std.specs.Prelude.{◌≡◌, IfOk, [], ◌∷◌, ◌++◌};
-ghost use Rattle.pure_grammar.specs.Theories.TheoryText.{Lemma};
 ghost use Rattle.pure_grammar.specs.Theories.Lexeme as spec_lexeme;
 ghost use Rattle.pure_grammar.specs.Theories.Reader as spec;
 ghost use Rattle.pure_script.specs.Seen.{span, seen_step, seen_steps};
-ghost use Rattle.pure_script.specs.Places.{seen_turn, seen_proof_course, seen_method, seen_proof_place};
+ghost use Rattle.pure_script.specs.Places.{seen_turn, seen_lemma, seen_goal, seen_proof, seen_proof_course, seen_method, goal_turn, any_turn};
 ghost use Rattle.pure_script.specs.Lexemes.{seen_lexeme};
 
+use crate::have::{add_have, after_have, at_have, at_have_text, begin_proof};
 use crate::lexeme::{Lexeme, is_ident, is_sign, is_word, number_in, quote_in};
 use crate::place::{
-    Course, FactMethod, Goal, LemmaPlace, Place, ProofPlace, RestPlace, Turn, at_command, ident,
-    moves_if, name, of_lemma,
+    Course, FactMethod, Goal, LemmaPlace, OpenHave, Place, ProofPlace, RestPlace, Subject, Turn,
+    at_command, ident, moves_if, name, of_lemma,
 };
 use crate::theory::{Command, Span, Step};
 use pure_grammar::{Keyword, Sign};
@@ -20,7 +20,7 @@ use std::mem;
 
 /// Behind `lemma` or `theorem`.
 pub(crate) fn at_lemma(alloc: Global, lexeme: Lexeme<'_>) -> Result<Turn, AllocError>
-    ensures { IfOk result (λ turn. seen_turn turn ≡ spec.turn spec.AtLemma (seen_lexeme lexeme.entry)) }
+    ensures { IfOk result (λ turn. seen_turn turn ≡ any_turn spec.AtLemma (seen_lexeme lexeme.entry)) }
 {
     match ident(alloc, lexeme)? {
         None => Ok(Turn::Refuses),
@@ -32,28 +32,40 @@ pub(crate) fn at_lemma(alloc: Global, lexeme: Lexeme<'_>) -> Result<Turn, AllocE
 
 /// Behind the name of the lemma.
 pub(crate) fn after_lemma(name: Text, lexeme: Lexeme<'_>) -> Turn
-    ensures { seen_turn result ≡ spec.turn (spec.AfterLemma name) (seen_lexeme lexeme.entry) }
+    ensures { seen_turn result ≡ any_turn (spec.AfterLemma name) (seen_lexeme lexeme.entry) }
 {
     let colon = is_sign(Sign::Colon, lexeme);
     moves_if(colon, of_lemma(LemmaPlace::AtLemmaText { name }))
 }
 
+/// The lemma of which nothing but its statement is read.
+fn stated(alloc: Global, name: Text, prop: Span) -> Goal
+    ensures { seen_lemma result ≡ record { name = name; prop = span prop; haves = [] } }
+{
+    let have = OpenHave {
+        name: Text::from(Vec::new(alloc)),
+        prop: Span { from: 0, to: 0 },
+    };
+    Goal {
+        name,
+        prop,
+        haves: Vec::new(alloc),
+        have,
+        subject: Subject::Lemma,
+        script: Vec::new(alloc),
+        facts: TextList::empty(alloc),
+    }
+}
+
 /// Behind the `:` of the lemma.
 pub(crate) fn at_lemma_text(alloc: Global, name: Text, lexeme: Lexeme<'_>) -> Turn
-    ensures { seen_turn result ≡ spec.turn (spec.AtLemmaText name) (seen_lexeme lexeme.entry) }
+    ensures { seen_turn result ≡ any_turn (spec.AtLemmaText name) (seen_lexeme lexeme.entry) }
 {
     match quote_in(lexeme) {
         None => Turn::Refuses,
         Some(prop) => {
-            let script = Vec::new(alloc);
-            let facts = TextList::empty(alloc);
-            let goal = Goal {
-                name,
-                prop,
-                script,
-                facts,
-            };
-            let place = ProofPlace::AtStep;
+            let goal = stated(alloc, name, prop);
+            let place = ProofPlace::AtProof;
             Turn::Moves {
                 place: Place::AtRest {
                     place: RestPlace::InProof { goal, place },
@@ -63,10 +75,9 @@ pub(crate) fn at_lemma_text(alloc: Global, name: Text, lexeme: Lexeme<'_>) -> Tu
     }
 }
 
-/// The goal gets one more step.
+/// The proof gets one more step.
 fn step(goal: &mut Goal, step: Step) -> Result<(), AllocError>
-    ensures name { IfOk result (λ _. goal.new.name ≡ goal.old.name) }
-    ensures prop { IfOk result (λ _. span goal.new.prop ≡ span goal.old.prop) }
+    ensures goal { IfOk result (λ _. seen_goal goal.new ≡ seen_goal goal.old) }
     ensures script { IfOk result (λ _. seen_steps goal.new.script.items ≡ seen_steps goal.old.script.items ++ seen_step step ∷ []) }
 {
     goal.script.push(step)?;
@@ -85,16 +96,16 @@ fn fact_step(method: FactMethod, fact: Text) -> Step
 }
 
 /// The lemma, whose proof is read.
-pub(crate) fn proved(alloc: Global, goal: Goal) -> Turn
-    ensures { seen_turn result ≡ spec.Adds (Lemma goal.name (span goal.prop) [] (seen_steps goal.script.items)) spec.AtCommand }
+pub(crate) fn proved(goal: Goal) -> Turn
+    ensures { seen_turn result ≡ spec.proved (spec.OfLemma (seen_lemma goal)) (seen_steps goal.script.items) }
 {
     let Goal {
         name,
         prop,
+        haves,
         script,
         ..
     } = goal;
-    let haves = Vec::new(alloc);
     Turn::Adds {
         command: Command::Lemma {
             name,
@@ -106,9 +117,28 @@ pub(crate) fn proved(alloc: Global, goal: Goal) -> Turn
     }
 }
 
+/// A proof is read: that of the lemma ends it, that of a have puts the have behind the others.
+fn after_proof(alloc: Global, goal: &mut Goal, place: &mut ProofPlace) -> Result<Course, AllocError>
+    ensures { IfOk result (λ course. (l : spec_lexeme.Lexeme) → seen_proof_course course goal.new place.new l ≡ spec.proved (seen_goal goal.old) (seen_steps goal.old.script.items)) }
+{
+    match goal.subject {
+        Subject::Lemma => Ok(Course::Ends),
+        Subject::Have => {
+            add_have(alloc, goal)?;
+            *place = ProofPlace::AtProof;
+            Ok(Course::Stays)
+        }
+    }
+}
+
 /// Behind a method; that of `by` closes the proof.
-fn after_method(goal: &mut Goal, place: &mut ProofPlace, last: bool) -> Result<Course, AllocError>
-    ensures { IfOk result (λ course. (l : spec_lexeme.Lexeme) → seen_proof_course course goal.new place.new l ≡ spec.after_method goal.old.name (span goal.old.prop) last (seen_steps goal.old.script.items)) }
+fn after_method(
+    alloc: Global,
+    goal: &mut Goal,
+    place: &mut ProofPlace,
+    last: bool,
+) -> Result<Course, AllocError>
+    ensures { IfOk result (λ course. (l : spec_lexeme.Lexeme) → seen_proof_course course goal.new place.new l ≡ spec.after_method (seen_goal goal.old) last (seen_steps goal.old.script.items)) }
 {
     if !last {
         *place = ProofPlace::AtStep;
@@ -116,21 +146,22 @@ fn after_method(goal: &mut Goal, place: &mut ProofPlace, last: bool) -> Result<C
     }
     step(goal, Step::Close)?;
     step(goal, Step::Done)?;
-    Ok(Course::Ends)
+    after_proof(alloc, goal, place)
 }
 
 /// Behind `apply` or `by`.
 fn at_method(
+    alloc: Global,
     goal: &mut Goal,
     place: &mut ProofPlace,
     last: bool,
     lexeme: Lexeme<'_>,
 ) -> Result<Course, AllocError>
-    ensures { IfOk result (λ course. seen_proof_course course goal.new place.new (seen_lexeme lexeme.entry) ≡ spec.proof_turn goal.old.name (span goal.old.prop) (seen_steps goal.old.script.items) (spec.AtMethod last) (seen_lexeme lexeme.entry)) }
+    ensures { IfOk result (λ course. seen_proof_course course goal.new place.new (seen_lexeme lexeme.entry) ≡ goal_turn goal.old (spec.AtMethod last) (seen_lexeme lexeme.entry)) }
 {
     if is_ident(b"assumption", lexeme) {
         step(goal, Step::Assumption)?;
-        return Ok(after_method(goal, place, last)?);
+        return Ok(after_method(alloc, goal, place, last)?);
     }
     if is_sign(Sign::OpenParenthesis, lexeme) {
         *place = ProofPlace::AtBasic { last };
@@ -146,7 +177,7 @@ fn at_basic(
     last: bool,
     lexeme: Lexeme<'_>,
 ) -> Result<Course, AllocError>
-    ensures { IfOk result (λ course. seen_proof_course course goal.new place.new (seen_lexeme lexeme.entry) ≡ spec.proof_turn goal.old.name (span goal.old.prop) (seen_steps goal.old.script.items) (spec.AtBasic last) (seen_lexeme lexeme.entry)) }
+    ensures { IfOk result (λ course. seen_proof_course course goal.new place.new (seen_lexeme lexeme.entry) ≡ goal_turn goal.old (spec.AtBasic last) (seen_lexeme lexeme.entry)) }
 {
     if is_ident(b"assumption", lexeme) {
         step(goal, Step::Assumption)?;
@@ -177,19 +208,20 @@ fn at_basic(
 
 /// Behind a method in parentheses.
 fn after_basic(
+    alloc: Global,
     goal: &mut Goal,
     place: &mut ProofPlace,
     last: bool,
     lexeme: Lexeme<'_>,
 ) -> Result<Course, AllocError>
-    ensures { IfOk result (λ course. seen_proof_course course goal.new place.new (seen_lexeme lexeme.entry) ≡ spec.basic_end goal.old.name (span goal.old.prop) (seen_steps goal.old.script.items) last (seen_lexeme lexeme.entry)) }
+    ensures { IfOk result (λ course. seen_proof_course course goal.new place.new (seen_lexeme lexeme.entry) ≡ goal_turn goal.old (spec.AfterBasic last) (seen_lexeme lexeme.entry)) }
 {
     if is_sign(Sign::Comma, lexeme) {
         *place = ProofPlace::AtBasic { last };
         return Ok(Course::Stays);
     }
     if is_sign(Sign::CloseParenthesis, lexeme) {
-        return Ok(after_method(goal, place, last)?);
+        return Ok(after_method(alloc, goal, place, last)?);
     }
     Ok(Course::Refuses)
 }
@@ -203,7 +235,7 @@ fn at_fact(
     method: FactMethod,
     lexeme: Lexeme<'_>,
 ) -> Result<Course, AllocError>
-    ensures { IfOk result (λ course. seen_proof_course course goal.new place.new (seen_lexeme lexeme.entry) ≡ spec.proof_turn goal.old.name (span goal.old.prop) (seen_steps goal.old.script.items) (spec.AtFact last (seen_method method)) (seen_lexeme lexeme.entry)) }
+    ensures { IfOk result (λ course. seen_proof_course course goal.new place.new (seen_lexeme lexeme.entry) ≡ goal_turn goal.old (spec.AtFact last (seen_method method)) (seen_lexeme lexeme.entry)) }
 {
     match name(alloc, lexeme)? {
         None => Ok(Course::Refuses),
@@ -223,7 +255,7 @@ fn at_unfolded(
     last: bool,
     lexeme: Lexeme<'_>,
 ) -> Result<Course, AllocError>
-    ensures { IfOk result (λ course. seen_proof_course course goal.new place.new (seen_lexeme lexeme.entry) ≡ spec.proof_turn goal.old.name (span goal.old.prop) (seen_steps goal.old.script.items) (spec.AtUnfolded last) (seen_lexeme lexeme.entry)) }
+    ensures { IfOk result (λ course. seen_proof_course course goal.new place.new (seen_lexeme lexeme.entry) ≡ goal_turn goal.old (spec.AtUnfolded last) (seen_lexeme lexeme.entry)) }
 {
     match name(alloc, lexeme)? {
         None => Ok(Course::Refuses),
@@ -245,7 +277,7 @@ fn after_unfolded(
     last: bool,
     lexeme: Lexeme<'_>,
 ) -> Result<Course, AllocError>
-    ensures { IfOk result (λ course. seen_proof_course course goal.new place.new (seen_lexeme lexeme.entry) ≡ spec.proof_turn goal.old.name (span goal.old.prop) (seen_steps goal.old.script.items) (spec.AfterUnfolded last goal.old.facts) (seen_lexeme lexeme.entry)) }
+    ensures { IfOk result (λ course. seen_proof_course course goal.new place.new (seen_lexeme lexeme.entry) ≡ goal_turn goal.old (spec.AfterUnfolded last goal.old.facts) (seen_lexeme lexeme.entry)) }
 {
     match name(alloc, lexeme)? {
         Some(fact) => {
@@ -256,18 +288,19 @@ fn after_unfolded(
         None => {
             let facts = mem::replace(&mut goal.facts, TextList::empty(alloc));
             step(goal, Step::Unfold { facts })?;
-            after_basic(goal, place, last, lexeme)
+            after_basic(alloc, goal, place, last, lexeme)
         }
     }
 }
 
 /// Where a step of the proof begins.
 fn at_step(
+    alloc: Global,
     goal: &mut Goal,
     place: &mut ProofPlace,
     lexeme: Lexeme<'_>,
 ) -> Result<Course, AllocError>
-    ensures { IfOk result (λ course. seen_proof_course course goal.new place.new (seen_lexeme lexeme.entry) ≡ spec.proof_turn goal.old.name (span goal.old.prop) (seen_steps goal.old.script.items) spec.AtStep (seen_lexeme lexeme.entry)) }
+    ensures { IfOk result (λ course. seen_proof_course course goal.new place.new (seen_lexeme lexeme.entry) ≡ goal_turn goal.old spec.AtStep (seen_lexeme lexeme.entry)) }
 {
     if is_word(Keyword::Apply, lexeme) {
         *place = ProofPlace::AtMethod { last: false };
@@ -284,7 +317,7 @@ fn at_step(
     }
     if is_word(Keyword::Done, lexeme) {
         step(goal, Step::Done)?;
-        return Ok(Course::Ends);
+        return Ok(after_proof(alloc, goal, place)?);
     }
     if is_word(Keyword::By, lexeme) {
         *place = ProofPlace::AtMethod { last: true };
@@ -293,13 +326,34 @@ fn at_step(
     Ok(Course::Refuses)
 }
 
+/// Where a have may stand, or the lemma's own proof begins.
+fn at_proof(
+    alloc: Global,
+    version: u32,
+    goal: &mut Goal,
+    place: &mut ProofPlace,
+    lexeme: Lexeme<'_>,
+) -> Result<Course, AllocError>
+    ensures { IfOk result (λ course. seen_proof_course course goal.new place.new (seen_lexeme lexeme.entry) ≡ spec.lemma_turn version (seen_lemma goal.old) (seen_lexeme lexeme.entry)) }
+{
+    if is_word(Keyword::Have, lexeme) {
+        if version == 1 {
+            return Ok(Course::Refuses);
+        }
+        *place = ProofPlace::AtHave;
+        return Ok(Course::Stays);
+    }
+    begin_proof(alloc, goal, Subject::Lemma);
+    at_step(alloc, goal, place, lexeme)
+}
+
 /// Behind `prefer`.
 fn at_number(
     goal: &mut Goal,
     place: &mut ProofPlace,
     lexeme: Lexeme<'_>,
 ) -> Result<Course, AllocError>
-    ensures { IfOk result (λ course. seen_proof_course course goal.new place.new (seen_lexeme lexeme.entry) ≡ spec.proof_turn goal.old.name (span goal.old.prop) (seen_steps goal.old.script.items) spec.AtNumber (seen_lexeme lexeme.entry)) }
+    ensures { IfOk result (λ course. seen_proof_course course goal.new place.new (seen_lexeme lexeme.entry) ≡ goal_turn goal.old spec.AtNumber (seen_lexeme lexeme.entry)) }
 {
     match number_in(lexeme) {
         None => Ok(Course::Refuses),
@@ -311,22 +365,27 @@ fn at_number(
     }
 }
 
-/// How a token of a proof goes on, with its place and what is read in place.
+/// How a token of a lemma, behind its statement, goes on, with its place and what is read in place.
 #[inline(never)]
 pub(crate) fn proof_course(
     alloc: Global,
+    version: u32,
     goal: &mut Goal,
     place: &mut ProofPlace,
     lexeme: Lexeme<'_>,
 ) -> Result<Course, AllocError>
-    ensures { IfOk result (λ course. seen_proof_course course goal.new place.new (seen_lexeme lexeme.entry) ≡ spec.proof_turn goal.old.name (span goal.old.prop) (seen_steps goal.old.script.items) (seen_proof_place goal.old place.old) (seen_lexeme lexeme.entry)) }
+    ensures { IfOk result (λ course. seen_proof_course course goal.new place.new (seen_lexeme lexeme.entry) ≡ spec.turn version (seen_proof goal.old place.old) (seen_lexeme lexeme.entry)) }
 {
     match *place {
-        ProofPlace::AtStep => at_step(goal, place, lexeme),
+        ProofPlace::AtProof => at_proof(alloc, version, goal, place, lexeme),
+        ProofPlace::AtHave => at_have(alloc, goal, place, lexeme),
+        ProofPlace::AfterHave => Ok(after_have(goal, place, lexeme)),
+        ProofPlace::AtHaveText => Ok(at_have_text(alloc, goal, place, lexeme)),
+        ProofPlace::AtStep => at_step(alloc, goal, place, lexeme),
         ProofPlace::AtNumber => at_number(goal, place, lexeme),
-        ProofPlace::AtMethod { last } => at_method(goal, place, last, lexeme),
+        ProofPlace::AtMethod { last } => at_method(alloc, goal, place, last, lexeme),
         ProofPlace::AtBasic { last } => at_basic(goal, place, last, lexeme),
-        ProofPlace::AfterBasic { last } => after_basic(goal, place, last, lexeme),
+        ProofPlace::AfterBasic { last } => after_basic(alloc, goal, place, last, lexeme),
         ProofPlace::AtFact { last, method } => at_fact(alloc, goal, place, last, method, lexeme),
         ProofPlace::AtUnfolded { last } => at_unfolded(alloc, goal, place, last, lexeme),
         ProofPlace::AfterUnfolded { last } => after_unfolded(alloc, goal, place, last, lexeme),

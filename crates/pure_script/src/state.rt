@@ -1,14 +1,14 @@
 //! The places of a whole theory's text, and where each token leads to.
-ghost use Rattle.std.specs.Prelude.{◌≡◌, IfOk, Some, [], ◌∷◌, ◌++◌};
+ghost use Rattle.std.specs.Prelude.{◌≡◌, IfOk, Some, [], ◌∷◌};
 ghost use Rattle.pure_grammar.specs.Theories.Lexeme.{Ends};
 ghost use Rattle.pure_grammar.specs.Theories.PhraseTree.{with_text};
 ghost use Rattle.pure_grammar.specs.Theories.Reader as spec;
-ghost use Rattle.pure_script.specs.Seen.{seen_command, seen_commands};
-ghost use Rattle.pure_script.specs.Places.{seen_place, seen_head, seen_rest, seen_type_place, seen_arity_place, seen_item_place, seen_lemma_place, seen_proof_place, seen_domains, seen_class, seen_named, seen_turn, seen_ended};
+ghost use Rattle.pure_script.specs.Seen.{seen_commands};
+ghost use Rattle.pure_script.specs.Places.{seen_place, seen_head, seen_rest, seen_type_place, seen_arity_place, seen_item_place, seen_lemma_place, seen_proof, seen_domains, seen_class, seen_named, seen_turn, seen_ended, any_turn};
 ghost use Rattle.pure_script.specs.Lexemes.{seen_lexeme};
 ghost use Rattle.pure_script.specs.States.{seen_state, seen_front, seen_next, seen_header, seen_end, IsNext, IsLed, IsImport};
 
-use crate::lexeme::{Lexeme, is_word};
+use crate::lexeme::{Lexeme, is_word, number_in};
 use crate::place::{
     AbovePlace, ArityPlace, Course, Domains, Goal, HeadPlace, Item, ItemPlace, LemmaPlace,
     NamedPlace, NewClass, Place, ProofPlace, RestPlace, SortPlace, Turn, TypePlace, at_command,
@@ -22,9 +22,10 @@ use pure_text::Text;
 use std::alloc::{AllocError, Global};
 use std::mem;
 
-/// The name and the imports of a theory.
+/// The version, the name and the imports of a theory.
 #[derive(Drop)]
 pub(crate) struct Header {
+    pub(crate) version: u32,
     pub(crate) name: Text,
     pub(crate) imports: Texts,
 }
@@ -33,9 +34,11 @@ pub(crate) struct Header {
 #[derive(Drop)]
 pub(crate) enum Front {
     AtStart,
-    AtTheoryName,
-    AfterTheoryName { name: Text },
-    AtImport { name: Text },
+    AtVersion,
+    AfterVersion { version: u32 },
+    AtTheoryName { version: u32 },
+    AfterTheoryName { version: u32, name: Text },
+    AtImport { version: u32, name: Text },
     AfterImport { header: Header },
 }
 
@@ -87,43 +90,95 @@ fn in_front(front: Front) -> Option<State>
     Some(State::InFront { front })
 }
 
+/// Where a text begins.
+fn at_start(lexeme: Lexeme<'_>) -> Option<State>
+    ensures { seen_next result ≡ spec.next spec.AtStart (seen_lexeme lexeme.entry) }
+{
+    if is_word(Keyword::Version, lexeme) {
+        return in_front(Front::AtVersion);
+    }
+    if is_word(Keyword::Theory, lexeme) {
+        return in_front(Front::AtTheoryName { version: 1 });
+    }
+    None
+}
+
+/// Behind `version`.
+fn at_version(lexeme: Lexeme<'_>) -> Option<State>
+    ensures { seen_next result ≡ spec.next spec.AtVersion (seen_lexeme lexeme.entry) }
+{
+    match number_in(lexeme) {
+        None => None,
+        Some(version) => in_front(Front::AfterVersion { version }),
+    }
+}
+
+/// Behind the number of the version.
+fn after_version(version: u32, lexeme: Lexeme<'_>) -> Option<State>
+    ensures { seen_next result ≡ spec.next (spec.AfterVersion version) (seen_lexeme lexeme.entry) }
+{
+    if is_word(Keyword::Theory, lexeme) {
+        return in_front(Front::AtTheoryName { version });
+    }
+    None
+}
+
 /// Behind `theory`.
-fn at_theory_name(alloc: Global, lexeme: Lexeme<'_>) -> Result<Option<State>, AllocError>
-    ensures { IfOk result (λ next. seen_next next ≡ spec.next spec.AtTheoryName (seen_lexeme lexeme.entry)) }
+fn at_theory_name(
+    alloc: Global,
+    version: u32,
+    lexeme: Lexeme<'_>,
+) -> Result<Option<State>, AllocError>
+    ensures { IfOk result (λ next. seen_next next ≡ spec.next (spec.AtTheoryName version) (seen_lexeme lexeme.entry)) }
 {
     match ident(alloc, lexeme)? {
         None => Ok(None),
-        Some(name) => Ok(in_front(Front::AfterTheoryName { name })),
+        Some(name) => Ok(in_front(Front::AfterTheoryName { version, name })),
     }
 }
 
 /// Behind the name of the theory.
 fn after_theory_name(
     alloc: Global,
+    version: u32,
     name: Text,
     lexeme: Lexeme<'_>,
 ) -> Result<Option<State>, AllocError>
-    ensures { IfOk result (λ next. seen_next next ≡ spec.next (spec.AfterTheoryName name) (seen_lexeme lexeme.entry)) }
+    ensures { IfOk result (λ next. seen_next next ≡ spec.next (spec.AfterTheoryName version name) (seen_lexeme lexeme.entry)) }
 {
     if is_word(Keyword::Imports, lexeme) {
-        return Ok(in_front(Front::AtImport { name }));
+        return Ok(in_front(Front::AtImport { version, name }));
     }
     if is_word(Keyword::Begin, lexeme) {
         let imports = only(alloc, Text::make(alloc, b"Pure")?)?;
-        return Ok(Some(body_begun(alloc, Header { name, imports })));
+        let header = Header {
+            version,
+            name,
+            imports,
+        };
+        return Ok(Some(body_begun(alloc, header)));
     }
     Ok(None)
 }
 
 /// Behind `imports`.
-fn at_import(alloc: Global, name: Text, lexeme: Lexeme<'_>) -> Result<Option<State>, AllocError>
-    ensures { IfOk result (λ next. seen_next next ≡ spec.next (spec.AtImport name) (seen_lexeme lexeme.entry)) }
+fn at_import(
+    alloc: Global,
+    version: u32,
+    name: Text,
+    lexeme: Lexeme<'_>,
+) -> Result<Option<State>, AllocError>
+    ensures { IfOk result (λ next. seen_next next ≡ spec.next (spec.AtImport version name) (seen_lexeme lexeme.entry)) }
 {
     match ident(alloc, lexeme)? {
         None => Ok(None),
         Some(theory) => {
             let imports = only(alloc, theory)?;
-            let header = Header { name, imports };
+            let header = Header {
+                version,
+                name,
+                imports,
+            };
             Ok(in_front(Front::AfterImport { header }))
         }
     }
@@ -141,6 +196,7 @@ fn after_import(
         Some(theory) => {
             let imports = with_import(alloc, header.imports, theory)?;
             let header = Header {
+                version: header.version,
                 name: header.name,
                 imports,
             };
@@ -161,15 +217,12 @@ fn front_next(alloc: Global, front: Front, lexeme: Lexeme<'_>) -> Result<Option<
     ensures { IfOk result (λ next. seen_next next ≡ spec.next (seen_front front) (seen_lexeme lexeme.entry)) }
 {
     match front {
-        Front::AtStart => {
-            if is_word(Keyword::Theory, lexeme) {
-                return Ok(in_front(Front::AtTheoryName));
-            }
-            Ok(None)
-        }
-        Front::AtTheoryName => at_theory_name(alloc, lexeme),
-        Front::AfterTheoryName { name } => after_theory_name(alloc, name, lexeme),
-        Front::AtImport { name } => at_import(alloc, name, lexeme),
+        Front::AtStart => Ok(at_start(lexeme)),
+        Front::AtVersion => Ok(at_version(lexeme)),
+        Front::AfterVersion { version } => Ok(after_version(version, lexeme)),
+        Front::AtTheoryName { version } => at_theory_name(alloc, version, lexeme),
+        Front::AfterTheoryName { version, name } => after_theory_name(alloc, version, name, lexeme),
+        Front::AtImport { version, name } => at_import(alloc, version, name, lexeme),
         Front::AfterImport { header } => after_import(alloc, header, lexeme),
     }
 }
@@ -211,7 +264,7 @@ fn in_head(
     head: HeadPlace,
     lexeme: Lexeme<'_>,
 ) -> Result<bool, AllocError>
-    ensures { IfOk result (λ on. IsLed on (seen_commands commands.new.items) (seen_place place.new) (seen_commands commands.old.items) (spec.turn (seen_head head) (seen_lexeme lexeme.entry))) }
+    ensures { IfOk result (λ on. IsLed on (seen_commands commands.new.items) (seen_place place.new) (seen_commands commands.old.items) (any_turn (seen_head head) (seen_lexeme lexeme.entry))) }
 {
     led(commands, place, head_turn(alloc, head, lexeme)?)
 }
@@ -219,7 +272,6 @@ fn in_head(
 /// The rest of a command ends, or an item of it, and whether the text goes on.
 #[inline(never)]
 fn finish(
-    alloc: Global,
     commands: &mut Vec<Command>,
     place: &mut Place,
     rest: RestPlace,
@@ -227,7 +279,7 @@ fn finish(
 ) -> Result<bool, AllocError>
     ensures { IfOk result (λ on. IsLed on (seen_commands commands.new.items) (seen_place place.new) (seen_commands commands.old.items) (seen_ended rest (seen_lexeme lexeme.entry))) }
 {
-    led(commands, place, turn::ended(alloc, rest, lexeme))
+    led(commands, place, turn::ended(rest, lexeme))
 }
 
 /// The next command begins, or the end, and whether the text goes on.
@@ -244,27 +296,29 @@ fn left(
 
 /// One token more of the commands, and whether it goes on.
 #[inline(never)]
+#[tactic(auto, using(crate::proofs::Versions::same_head))]
 fn in_body(
     alloc: Global,
+    version: u32,
     commands: &mut Vec<Command>,
     place: &mut Place,
     lexeme: Lexeme<'_>,
 ) -> Result<bool, AllocError>
-    ensures { IfOk result (λ on. IsLed on (seen_commands commands.new.items) (seen_place place.new) (seen_commands commands.old.items) (spec.turn (seen_place place.old) (seen_lexeme lexeme.entry))) }
+    ensures { IfOk result (λ on. IsLed on (seen_commands commands.new.items) (seen_place place.new) (seen_commands commands.old.items) (spec.turn version (seen_place place.old) (seen_lexeme lexeme.entry))) }
 {
     match place {
         Place::AtHead { place: here } => {
             let head = mem::replace(here, HeadPlace::AtCommand);
             in_head(alloc, commands, place, head, lexeme)
         }
-        Place::AtRest { place: here } => match rest_course(alloc, here, lexeme)? {
+        Place::AtRest { place: here } => match rest_course(alloc, version, here, lexeme)? {
             Course::Stays => Ok(true),
             Course::Refuses => Ok(false),
             Course::Leaves => left(commands, place, lexeme),
             Course::Ends => {
                 let nothing = ItemPlace::AtItem;
                 let rest = mem::replace(here, RestPlace::OfItem { place: nothing });
-                finish(alloc, commands, place, rest, lexeme)
+                finish(commands, place, rest, lexeme)
             }
         },
     }
@@ -313,10 +367,10 @@ fn goes_anywhere(alloc: Global, state: &mut State, lexeme: Lexeme<'_>) -> Result
 {
     match state {
         State::InBody {
+            header,
             commands,
             place,
-            ..
-        } => in_body(alloc, commands, place, lexeme),
+        } => in_body(alloc, header.version, commands, place, lexeme),
         State::InFront { front } => {
             if is_import(alloc, front, lexeme)? {
                 return Ok(true);
@@ -344,10 +398,10 @@ pub(crate) fn goes_on(
 {
     match state {
         State::InBody {
+            header,
             commands,
             place,
-            ..
-        } => in_body(alloc, commands, place, lexeme),
+        } => in_body(alloc, header.version, commands, place, lexeme),
         State::InFront { .. } => goes_anywhere(alloc, state, lexeme),
     }
 }
@@ -378,7 +432,7 @@ pub(crate) fn ended(state: State) -> Option<TheoryText>
             discard(place);
             if may_end {
                 return Some(TheoryText {
-                    version: 1,
+                    version: header.version,
                     name: header.name,
                     imports: header.imports.into_list(),
                     commands,
@@ -399,18 +453,24 @@ fn front_kind(front: &Front) -> TokenKind
 {
     match front {
         Front::AtStart => TokenKind::Word,
-        Front::AtTheoryName => TokenKind::Ident,
+        Front::AtVersion => TokenKind::Number,
+        Front::AfterVersion { .. } => TokenKind::Word,
+        Front::AtTheoryName { .. } => TokenKind::Ident,
         Front::AfterTheoryName { .. } => TokenKind::Word,
         Front::AtImport { .. } => TokenKind::Ident,
         Front::AfterImport { .. } => TokenKind::Word,
     }
 }
 
-/// What may stand in a proof.
-fn kind_in_proof(goal: &Goal, place: ProofPlace) -> TokenKind
-    ensures { result ≡ spec.kind_in_proof (seen_proof_place goal.now place) }
+/// What may stand in a lemma, behind its statement.
+fn proof_kind(goal: &Goal, place: ProofPlace) -> TokenKind
+    ensures { result ≡ spec.kind_at (seen_proof goal.now place) }
 {
     match place {
+        ProofPlace::AtProof => TokenKind::Word,
+        ProofPlace::AtHave => TokenKind::Ident,
+        ProofPlace::AfterHave => TokenKind::Symbol,
+        ProofPlace::AtHaveText => TokenKind::Quote,
         ProofPlace::AtStep => TokenKind::Word,
         ProofPlace::AtNumber => TokenKind::Number,
         ProofPlace::AtMethod { .. } => TokenKind::Ident,
@@ -534,7 +594,7 @@ fn rest_kind(place: &RestPlace) -> TokenKind
         RestPlace::InClass { class, place } => above_kind(class, *place),
         RestPlace::InDomains { domains, place } => sort_kind(domains, *place),
         RestPlace::OfItem { place } => item_kind(place),
-        RestPlace::InProof { goal, place } => kind_in_proof(goal, *place),
+        RestPlace::InProof { goal, place } => proof_kind(goal, *place),
     }
 }
 

@@ -2,7 +2,7 @@
 ghost use Rattle.std.specs.Prelude.{◌≡◌, IfOk};
 ghost use Rattle.pure_grammar.specs.Theories.Reader as spec;
 ghost use Rattle.pure_script.specs.Lexemes.{seen_lexeme};
-ghost use Rattle.pure_script.specs.Places.{seen_turn};
+ghost use Rattle.pure_script.specs.Places.{seen_turn, any_turn};
 
 use crate::lexeme::{Lexeme, is_sign, variable_in};
 use crate::place::{Turn, TypePlace, at_command, ident, moves_if, of_type, variable};
@@ -17,7 +17,7 @@ pub(crate) fn at_type_name(
     params: u32,
     lexeme: Lexeme<'_>,
 ) -> Result<Turn, AllocError>
-    ensures { IfOk result (λ turn. seen_turn turn ≡ spec.turn (spec.AtTypeName params) (seen_lexeme lexeme.entry)) }
+    ensures { IfOk result (λ turn. seen_turn turn ≡ any_turn (spec.AtTypeName params) (seen_lexeme lexeme.entry)) }
 {
     match ident(alloc, lexeme)? {
         None => Ok(Turn::Refuses),
@@ -30,7 +30,7 @@ pub(crate) fn at_type_name(
 
 /// Behind `typedecl`.
 pub(crate) fn at_params(alloc: Global, lexeme: Lexeme<'_>) -> Result<Turn, AllocError>
-    ensures { IfOk result (λ turn. seen_turn turn ≡ spec.turn spec.AtParams (seen_lexeme lexeme.entry)) }
+    ensures { IfOk result (λ turn. seen_turn turn ≡ any_turn spec.AtParams (seen_lexeme lexeme.entry)) }
 {
     match variable_in(lexeme) {
         Some(_) => Ok(Turn::Moves {
@@ -50,7 +50,7 @@ pub(crate) fn at_params(alloc: Global, lexeme: Lexeme<'_>) -> Result<Turn, Alloc
 
 /// Where a type variable stands.
 pub(crate) fn at_param(alloc: Global, params: Texts, lexeme: Lexeme<'_>) -> Result<Turn, AllocError>
-    ensures { IfOk result (λ turn. seen_turn turn ≡ spec.turn (spec.AtParam params) (seen_lexeme lexeme.entry)) }
+    ensures { IfOk result (λ turn. seen_turn turn ≡ any_turn (spec.AtParam params) (seen_lexeme lexeme.entry)) }
 {
     match variable(alloc, lexeme)? {
         None => Ok(Turn::Refuses),
@@ -68,7 +68,7 @@ pub(crate) fn at_param(alloc: Global, params: Texts, lexeme: Lexeme<'_>) -> Resu
 
 /// Behind a type variable.
 pub(crate) fn after_param(params: Texts, lexeme: Lexeme<'_>) -> Result<Turn, AllocError>
-    ensures { IfOk result (λ turn. seen_turn turn ≡ spec.turn (spec.AfterParam params) (seen_lexeme lexeme.entry)) }
+    ensures { IfOk result (λ turn. seen_turn turn ≡ any_turn (spec.AfterParam params) (seen_lexeme lexeme.entry)) }
 {
     if is_sign(Sign::Comma, lexeme) {
         return Ok(Turn::Moves {

@@ -12,9 +12,9 @@ use Rattle.pure_grammar.specs.Tokens.Token.{is_spelling, is_keyword, is_long}
 use Rattle.pure_lex.specs.Identifier.{is_identifier}
 use Rattle.pure_graph.specs.Limits.{most_files}
 use Rattle.pure_graph.specs.Listing.{AreTheories, file_name}
-use Rattle.pure_graph.specs.Outcome.{Outcome, Refused, Stands, IsOwnOutcome, is_headed, tree_outcome, pure_theory}
+use Rattle.pure_graph.specs.Outcome.{Outcome, Refused, Stands, IsOwnOutcome, is_known_version, is_headed, known_outcome, tree_outcome, pure_theory}
 use Rattle.pure_graph.specs.Reading.{Answer, File, IsTried, AreReadFrom, counted, fits, file_parts}
-use Rattle.pure_graph.specs.declared.outcome.Reason.TheVariants.{TooManyFiles, TooLarge, HeaderName}
+use Rattle.pure_graph.specs.declared.outcome.Reason.TheVariants.{TooManyFiles, TooLarge, UnknownVersion, HeaderName}
 use Rattle.pure_graph.specs.Session.{Shown}
 use Rattle.pure_graph.specs.Graph.{IsOutcomeJudged, linked, without, first_absent, imports_of}
 use Rattle.pure_graph.specs.Order.{Loaded, file_of, AreTakenBehind}
@@ -54,11 +54,19 @@ counted-before n o source text h = tell (fits n o) h
     tell true e = e
     tell false e = absurd (cc)
 
-tree-headed : (theory source : List ℕ) (tree : TheoryText) (s : List ℕ) (x : TheoryText) → tree_outcome theory source tree ≡ Stands s x → is_headed theory tree ≡ true
-tree-headed theory source tree s x h = elim (cases_Bool (is_headed theory tree)) [
+known-headed : (theory source : List ℕ) (tree : TheoryText) (s : List ℕ) (x : TheoryText) → known_outcome theory source tree ≡ Stands s x → is_headed theory tree ≡ true
+known-headed theory source tree s x h = elim (cases_Bool (is_headed theory tree)) [
   | inl headed ↦ headed
-  | inr other ↦ (let refused : tree_outcome theory source tree ≡ Refused HeaderName = rw other refl in absurd (let no : Refused HeaderName ≡ Stands s x = sym refused ∙ h in cc))
+  | inr other ↦ (let refused : known_outcome theory source tree ≡ Refused HeaderName = rw other refl in absurd (let no : Refused HeaderName ≡ Stands s x = sym refused ∙ h in cc))
 ]
+
+-- a tree that stands has a version that is known
+pub tree-known : (theory source : List ℕ) (tree : TheoryText) (s : List ℕ) (x : TheoryText) → tree_outcome theory source tree ≡ Stands s x → known_outcome theory source tree ≡ Stands s x
+tree-known theory source tree s x h = by (is_known_version tree.version) h
+  where
+    by : (b : Bool) → cond b (known_outcome theory source tree) (Refused UnknownVersion) ≡ Stands s x → known_outcome theory source tree ≡ Stands s x
+    by true e = e
+    by false e = absurd (cc)
 
 headed-other : (theory : List ℕ) (tree : TheoryText) → is_headed theory tree ≡ true → theory ≡ pure_theory → ⊥
 headed-other theory tree h e =
@@ -70,7 +78,7 @@ own-headed : (theory : List ℕ) (bytes : Option (List ℕ)) (s : List ℕ) (x :
 own-headed theory None s x own e = cc
 own-headed theory (Some source) s x (inl (l, o)) e = cc
 own-headed theory (Some source) s x (inr (l, inl (at, f, o))) e = cc
-own-headed theory (Some source) s x (inr (l, inr (tree, f, o))) e = headed-other theory tree (tree-headed theory source tree s x (sym o)) e
+own-headed theory (Some source) s x (inr (l, inr (tree, f, o))) e = headed-other theory tree (known-headed theory source tree s x (tree-known theory source tree s x (sym o))) e
 
 tried-headed : (is_read : Bool) (a : Answer) (own : Outcome) (s : List ℕ) (x : TheoryText) → IsTried is_read a own → own ≡ Stands s x → a.theory ≡ pure_theory → ⊥
 tried-headed true a own s x tried o e = own-headed a.theory a.bytes s x (subst (IsOwnOutcome a.theory a.bytes) o tried) e

@@ -48,7 +48,7 @@ pub fn parent_refused_text(alloc: Global, parent: &[u8]) -> Result<Text, AllocEr
 }
 
 /// The text of a reason.
-#[tactic(auto, unfolding(pure_graph::specs::Session::too_many_files_text, pure_graph::specs::Session::no_file_text, pure_graph::specs::Session::too_large_text, pure_graph::specs::Session::header_name_text, pure_graph::specs::Session::cyclic_imports_text))]
+#[tactic(auto, unfolding(pure_graph::specs::Session::too_many_files_text, pure_graph::specs::Session::no_file_text, pure_graph::specs::Session::too_large_text, pure_graph::specs::Session::unknown_version_text, pure_graph::specs::Session::header_name_text, pure_graph::specs::Session::cyclic_imports_text))]
 fn reason_text(alloc: Global, reason: &Reason) -> Result<Text, AllocError>
     ensures { IfOk result (λ t. t ≡ spec.reason_text reason.now) }
 {
@@ -57,6 +57,7 @@ fn reason_text(alloc: Global, reason: &Reason) -> Result<Text, AllocError>
         Reason::NoFile { theory } => joined(alloc, b"no file ", theory.bytes()),
         Reason::TooLarge => Text::make(alloc, b"too large"),
         Reason::Syntax { line, column } => syntax_text(alloc, *line, *column),
+        Reason::UnknownVersion => Text::make(alloc, b"unknown version"),
         Reason::HeaderName => Text::make(alloc, b"header name"),
         Reason::CyclicImports => Text::make(alloc, b"cyclic imports"),
         Reason::ParentRefused { theory } => parent_refused_text(alloc, theory.bytes()),

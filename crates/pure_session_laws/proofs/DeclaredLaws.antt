@@ -1,5 +1,5 @@
--- What a command adds is its theory's own.
-use Rattle.std.proofs.Common.{◌≡◌, ◌⊎◌, ℕ, List, [], ◌∷◌, ◌++◌, refl, sym, ◌∙◌, subst, inl, inr, Some}
+-- What a command with its parts adds is its theory's own.
+use Rattle.std.proofs.Common.{◌≡◌, ◌⊎◌, ◌+◌, ℕ, List, [], ◌∷◌, ◌++◌, append_assoc, refl, sym, ◌∙◌, subst, inl, inr, Some}
 use Rattle.std.specs.Prelude.{Result, Ok, Err}
 use Rattle.std.proofs.lemmas.Option.{same_Some}
 use Rattle.pure_text.specs.Lists.{IsIn, Each}
@@ -18,7 +18,11 @@ use Rattle.pure_statements.specs.declared.reason.Reason.{Reason}
 use Rattle.pure_statements.specs.Chain.{refuses, goes_on, holds, passes}
 use Rattle.pure_method.specs.Declare.Notes.{Note, Outcome, Change}
 use Rattle.pure_method.specs.Declare.Commands.{Place, IsNameOf, fact_base, IsOutcome, IsSaid, IsNewClassChange, IsClassChange, IsTypeChange, IsFoundArityChange, IsClassArityChange, IsDomainsArityChange, IsArityChange, IsNewConstChange, IsConstChange, IsAxiomChange, IsBodyChange, IsTermChange, IsTypedChange, IsTreeChange, IsTextChange, IsNewDefinitionChange, IsDefinitionChange, IsLemmaOutcome, declaring, declaring_const, declaring_definition, declaring_axiom, forking}
-use Rattle.pure_method.specs.Declare.First.{outcome_of, Declares}
+use Rattle.pure_method.specs.Declare.First as first
+use Rattle.pure_method.specs.Declare.First.{outcome_of}
+use Rattle.pure_method.specs.Declare.Parts.{Part, Whole, Within, End, DeclaresPart}
+use Rattle.pure_method.specs.Declare.Fold.{part_label, AreParts, Declares}
+use Rattle.pure_method.proofs.Declare.PartLaws.{AreNames, IsPartDone, by_command, by_binding, by_refusal, part-done, next-bound}
 use Rattle.pure_session_laws.specs.Owned.{IsNameIn, IsOf}
 
 -- The second content is of the same theory, and each of its declarations is the first's, or one of the theory t.
@@ -27,12 +31,21 @@ pub record HasAdded (texts : List (List ℕ)) (t : TheoryId) (Q R : Content) : T
   pub ancestors : R.ancestors ≡ Q.ancestors
   pub each : (d : Decl) → IsIn d R.declarations → IsIn d Q.declarations ⊎ IsOf texts t d
 
+nothing-added : (texts : List (List ℕ)) (t : TheoryId) (Q : Content) → HasAdded texts t Q Q
+nothing-added texts t Q = record { own = refl; ancestors = refl; each = λ d m. inl m }
+
+further-added : (texts : List (List ℕ)) (t : TheoryId) (Q R S : Content) → HasAdded texts t Q R → HasAdded texts t R S → HasAdded texts t Q S
+further-added texts t Q R S h k = record {
+  own = k.own ∙ h.own;
+  ancestors = k.ancestors ∙ h.ancestors;
+  each = λ d m. elim (k.each d m) [ inl there ↦ h.each d there | inr new ↦ inr new ];
+}
+
+-- ---- a command whose haves are passed over
+
 module _ (P : Place) (t : TheoryId) (text : HasText P.texts t.name P.theory) (index : P.label.theory ≡ t.index) where
   abbrev Adds : Content → Type 0
   Adds R = HasAdded P.texts t P.content R
-
-  same-adds : Adds P.content
-  same-adds = record { own = refl; ancestors = refl; each = λ d m. inl m }
 
   more : (added : List Decl) (R : Content) → Each (IsOf P.texts t) added → R ≡ with_declarations P.content (P.content.declarations ++ added) → Adds R
   more added R h e = subst Adds (sym e) (record {
@@ -131,11 +144,46 @@ module _ (P : Place) (t : TheoryId) (text : HasText P.texts t.name P.theory) (in
 
   answer-adds : (command : Command) (o : Outcome) (answer : Result Outcome Reason) → IsOutcome P command answer → o ≡ outcome_of P command answer → Adds o.next
   answer-adds command o (Ok p) h e = subst (λ (x : Outcome). Adds x.next) (sym e) (outcome-adds command p h)
-  answer-adds command o (Err reason) h e = subst (λ (x : Outcome). Adds x.next) (sym e) same-adds
+  answer-adds command o (Err reason) h e = subst (λ (x : Outcome). Adds x.next) (sym e) (nothing-added P.texts t P.content)
 
-pub declared-adds : (texts : List (List ℕ)) (source : List ℕ) (label : Label) (Q : Content) (command : Command) (note : Note) (next : Content) (theory : TheoryId)
-    → Q.own ≡ Some theory → label.theory ≡ theory.index → Declares texts source label Q command note next → HasAdded texts theory Q next
-declared-adds texts source label Q command note next theory own index h =
+whole-adds : (texts : List (List ℕ)) (source : List ℕ) (label : Label) (Q : Content) (command : Command) (note : Note) (next : Content) (theory : TheoryId)
+    → Q.own ≡ Some theory → label.theory ≡ theory.index → first.Declares texts source label Q command note next → HasAdded texts theory Q next
+whole-adds texts source label Q command note next theory own index h =
     let same : h.own.own ≡ theory = same_Some h.own.own theory (sym h.own.is_own ∙ own) in
     let text : HasText texts theory.name h.theory = subst (λ (t : TheoryId). HasText texts t.name h.theory) same h.own.text in
     answer-adds (record { texts = texts; source = source; label = label; theory = h.theory; content = Q }) theory text index command (record { note = note; next = next }) h.declares.answer h.declares.is h.declares.comes
+
+-- ---- a part
+
+-- The base of a have's name is that of its lemma, a dot and its own.
+part-name : (texts : List (List ℕ)) (t : TheoryId) (theory : List ℕ) → HasText texts t.name theory → (part : Part) (n m : ℕ) → AreNames texts theory part n m → IsNameIn texts t.name n
+part-name texts t theory text (Whole command) n m is = absurd is
+part-name texts t theory text (Within lemma have) n m is =
+    record { text = theory; base = lemma ++ 46 ∷ have.name; of_theory = text; full = subst (λ (x : List ℕ). HasText texts n x) (append_assoc theory (46 ∷ lemma) (46 ∷ have.name)) is.0 }
+part-name texts t theory text (End lemma prop script) n m is = record { text = theory; base = lemma; of_theory = text; full = is.0 }
+
+part-adds : (texts : List (List ℕ)) (source : List ℕ) (label : Label) (Q : Content) (part : Part) (note : Note) (next : Content) (theory : TheoryId)
+    → Q.own ≡ Some theory → label.theory ≡ theory.index → DeclaresPart texts source label Q part note next → HasAdded texts theory Q next
+part-adds texts source label Q part note next theory own index h = by (part-done texts source label Q note next part h)
+  where
+    by : IsPartDone texts source label Q part note next → HasAdded texts theory Q next
+    by (by_command command d row e) = whole-adds texts source label Q command note next theory own index d
+    by (by_binding text is b proof names) =
+        let same : is.own ≡ theory = same_Some is.own theory (sym is.is_own ∙ own) in
+        let of_theory : HasText texts theory.name text = subst (λ (t : TheoryId). HasText texts t.name text) same is.text in
+        let P : Place = record { texts = texts; source = source; label = label; theory = text; content = Q } in
+        more P theory of_theory index (PromiseDecl b.number label b.stated.prop ∷ []) next ((part-name texts theory text of_theory part b.number b.lemma names, index), tt) (next-bound texts source label Q note next text b)
+    by (by_refusal row e same) = subst (HasAdded texts theory Q) (sym same) (nothing-added texts theory Q)
+
+-- ---- a command with its parts
+
+pub parts-add : (texts : List (List ℕ)) (source : List ℕ) (label : Label) (theory : TheoryId) → label.theory ≡ theory.index → (parts : List Part) (place : ℕ) (Q : Content) (notes : List Note) (last : Content)
+    → Q.own ≡ Some theory → AreParts texts source label place Q parts notes last → HasAdded texts theory Q last
+parts-add texts source label theory index [] place Q notes last own h = subst (HasAdded texts theory Q) (sym h.1) (nothing-added texts theory Q)
+parts-add texts source label theory index (part ∷ parts) place Q notes last own (note, next, more, declares, rest, e) =
+    let added : HasAdded texts theory Q next = part-adds texts source (part_label label place) Q part note next theory own index declares in
+    further-added texts theory Q next last added (parts-add texts source label theory index parts (place + 1) next more last (added.own ∙ own) rest)
+
+pub declared-adds : (texts : List (List ℕ)) (source : List ℕ) (label : Label) (Q : Content) (command : Command) (notes : List Note) (next : Content) (theory : TheoryId)
+    → Q.own ≡ Some theory → label.theory ≡ theory.index → Declares texts source label Q command notes next → HasAdded texts theory Q next
+declared-adds texts source label Q command notes next theory own index h = parts-add texts source label theory index h.parts 0 Q notes next own h.are

@@ -9,7 +9,7 @@ use Rattle.pure_grammar.specs.Theories.TheoryText.{Command}
 use Rattle.pure_logic.specs.Content.{TheoryId, Content}
 use Rattle.pure_logic.specs.Beginning.{AreToldApart, IsNewOver, ancestors_of, theories_of, HasTheoriesApart}
 use Rattle.pure_method.specs.Declare.Notes.{Note}
-use Rattle.pure_method.specs.Declare.First.{AreDeclared}
+use Rattle.pure_method.specs.Declare.Fold.{AreDeclared}
 use Rattle.pure_session_laws.specs.Owned.{IsLast, IsOwned}
 use Rattle.pure_session_laws.specs.Ended.{HasPlainName, AreEnded, IsNext, IsGivenParents}
 use Rattle.pure_session_laws.specs.Kept.{CommandKeepsOwned, CommandKeepsSession, NothingHasEnded, TheoryEnds}
@@ -28,8 +28,8 @@ added-owned texts ended t Q R own added owned d m = elim (added.each d m) [
 ]
 
 pub command-keeps_owned : CommandKeepsOwned
-command-keeps_owned texts ended source label Q command note next theory own index owned h =
-    added-owned texts ended theory Q next own (declared-adds texts source label Q command note next theory own index h) owned
+command-keeps_owned texts ended source label Q command notes next theory own index owned h =
+    added-owned texts ended theory Q next own (declared-adds texts source label Q command notes next theory own index h) owned
 
 -- ---- all commands
 
@@ -42,9 +42,9 @@ record HasGone (texts : List (List ℕ)) (ended : List Content) (Q R : Content) 
 gone : (texts : List (List ℕ)) (ended : List Content) (source : List ℕ) (t : TheoryId) (place : ℕ) (Q : Content) (commands : List Command) (notes : List Note) (last : Content)
     → Q.own ≡ Some t → IsOwned texts ended Q → AreDeclared texts source t.index place Q commands notes last → HasGone texts ended Q last
 gone texts ended source t place Q [] notes last own owned (n, e) = subst (HasGone texts ended Q) (sym e) (record { own = refl; ancestors = refl; owned = owned })
-gone texts ended source t place Q (command ∷ commands) notes last own owned (note, next, more, declares, rest, e) =
+gone texts ended source t place Q (command ∷ commands) notes last own owned (first, next, more, declares, rest, e) =
     let label : Label = record { theory = t.index; command = place; part = 0 } in
-    let added : HasAdded texts t Q next = declared-adds texts source label Q command note next t own refl declares in
+    let added : HasAdded texts t Q next = declared-adds texts source label Q command first next t own refl declares in
     let further : HasGone texts ended next last =
     gone texts ended source t (place + 1) next commands more last (added.own ∙ own) (added-owned texts ended t Q next own added owned) rest in
     record { own = further.own ∙ added.own; ancestors = further.ancestors ∙ added.ancestors; owned = further.owned }
@@ -134,8 +134,8 @@ apart-still Q R own ancestors h = record {
 }
 
 pub command-keeps_session : CommandKeepsSession
-command-keeps_session texts source label Q command note next theory own index s h =
-    let added : HasAdded texts theory Q next = declared-adds texts source label Q command note next theory own index h in
+command-keeps_session texts source label Q command notes next theory own index s h =
+    let added : HasAdded texts theory Q next = declared-adds texts source label Q command notes next theory own index h in
     record {
       names = s.names;
       apart = apart-still Q next added.own added.ancestors s.apart;

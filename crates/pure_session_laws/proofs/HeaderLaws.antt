@@ -9,8 +9,8 @@ use Rattle.pure_grammar.specs.declared.lexeme.Keyword.TheVariants as keyword
 use Rattle.pure_grammar.specs.declared.lexeme.Sign.TheVariants as sign
 use Rattle.pure_grammar.specs.Theories.TheoryText.{Span}
 use Rattle.pure_grammar.specs.Theories.Lexeme.{Lexeme, Reserved, Signed, Plain, Other, proof_lexeme, command_lexeme, word_lexeme, symbol_lexeme, lexeme_of, lexeme, lexemes, ident_in}
-use Rattle.pure_grammar.specs.Theories.Phrase.{FilePhrase}
-use Rattle.pure_grammar.specs.Theories.PhraseText.{file_text}
+use Rattle.pure_grammar.specs.Theories.Phrase.{Ident, VersionPhrase, NoVersion, WrittenVersion, FilePhrase}
+use Rattle.pure_grammar.specs.Theories.PhraseText.{ident_text, version_text, file_text}
 use Rattle.pure_grammar.proofs.Beside.{beside, beside-has}
 
 -- the lexeme is no identifier
@@ -104,10 +104,23 @@ pub record IsNameToken (source : List ℕ) (tokens : List Token) (name : List �
   pub ident : token.kind ≡ kind.Ident
   pub bytes : slice_range source token.from token.to ≡ name
 
-pub name-token : (source : List ℕ) (tokens : List Token) (f : FilePhrase) → file_text f ≡ lexemes source tokens → (t : Token) × IsNameToken source tokens f.name.text t
-name-token source [] f e = absurd (cc)
-name-token source (t ∷ []) f e = absurd (cc)
-name-token source (t ∷ u ∷ tokens) f e =
-    let second : lexeme source u ≡ Plain f.name.text f.name.at = cc in
-    let w = plain-token u.kind (slice_range source u.from u.to) (record { from = u.from; to = u.to }) f.name.at f.name.text second in
+-- the name behind the word `theory`
+name-behind : (source : List ℕ) (tokens : List Token) (x : Ident) (r : List Lexeme) → Reserved keyword.Theory ∷ ident_text x r ≡ lexemes source tokens → (t : Token) × IsNameToken source tokens x.text t
+name-behind source [] x r e = absurd (cc)
+name-behind source (t ∷ []) x r e = absurd (cc)
+name-behind source (t ∷ u ∷ tokens) x r e =
+    let second : lexeme source u ≡ Plain x.text x.at = cc in
+    let w = plain-token u.kind (slice_range source u.from u.to) (record { from = u.from; to = u.to }) x.at x.text second in
     (u, record { among = inr (inl refl); ident = w.0; bytes = w.1 })
+
+name-in : (source : List ℕ) (tokens : List Token) (v : VersionPhrase) (x : Ident) (r : List Lexeme) → version_text v (Reserved keyword.Theory ∷ ident_text x r) ≡ lexemes source tokens → (t : Token) × IsNameToken source tokens x.text t
+name-in source tokens NoVersion x r e = name-behind source tokens x r e
+name-in source [] (WrittenVersion n) x r e = absurd (cc)
+name-in source (t ∷ []) (WrittenVersion n) x r e = absurd (cc)
+name-in source (t ∷ u ∷ tokens) (WrittenVersion n) x r e =
+    let rest : Reserved keyword.Theory ∷ ident_text x r ≡ lexemes source tokens = cc in
+    let w = name-behind source tokens x r rest in
+    (w.0, record { among = inr (inr w.1.among); ident = w.1.ident; bytes = w.1.bytes })
+
+pub name-token : (source : List ℕ) (tokens : List Token) (f : FilePhrase) → file_text f ≡ lexemes source tokens → (t : Token) × IsNameToken source tokens f.name.text t
+name-token source tokens f e = name-in source tokens f.version f.name _ e

@@ -12,6 +12,5 @@ pub mod LimitLaws
 pub mod HeaderLaws
 pub mod NamedLaws
 pub mod ScriptLaws
-pub mod AloneLaws
 pub mod WellLaws
 pub mod FollowingLaws

@@ -1,11 +1,11 @@
 -- The theories of a session are within the limits.
-use Rattle.std.proofs.Common.{◌≡◌, ◌≤◌, ◌<◌, ◌+◌, ◌-◌, inl, inr, ℕ, Bool, true, false, cond, List, [], ◌∷◌, ◌++◌, length, map, refl, sym, ◌∙◌, ap, subst, arith, Option, Some, None, nat_lt, nat_le}
+use Rattle.std.proofs.Common.{◌≡◌, ◌≤◌, ◌<◌, ◌+◌, ◌-◌, inl, inr, ℕ, Bool, true, false, cond, List, [], ◌∷◌, ◌++◌, length, map, refl, sym, ◌∙◌, ap, subst, arith, Option, Some, None, nat_eq, nat_lt, nat_le}
 use Rattle.std.specs.List.{sum_by}
 use Rattle.std.proofs.lemmas.List.Sums.{sum_by-cons}
 use Rattle.std.proofs.lemmas.Bool.{ltb-true, ltb-false, leb-true}
 use Rattle.pure_text.specs.Lists.{IsIn, EachTwo, AreDistinct}
 use Rattle.pure_text.proofs.ListLaws.{moved}
-use Rattle.pure_graph.specs.Limits.{most_files, most_session_parts}
+use Rattle.pure_graph.specs.Limits.{most_files, most_session_parts, session_parts_bound}
 use Rattle.pure_graph.specs.Outcome.{Outcome, Refused, Stands, part_count}
 use Rattle.pure_graph.specs.Reading.{Answer, File, IsTried, AreReadFrom, counted, file_parts}
 use Rattle.pure_graph.specs.Graph.{IsOutcomeJudged, linked, without, first_absent, imports_of}
@@ -13,7 +13,8 @@ use Rattle.pure_graph.specs.Order.{Loaded, file_of}
 use Rattle.pure_graph.specs.Session.{Refusal, IsLoadingOf}
 use Rattle.pure_graph.specs.declared.outcome.Reason.{Reason}
 use Rattle.pure_graph.specs.declared.outcome.Reason.TheVariants.{TooLarge}
-use Rattle.pure_session_laws.specs.Limits.{LoadedWithinLimits}
+use Rattle.pure_graph.proofs.LimitLemmas.{session-parts-bounded}
+use Rattle.pure_session_laws.specs.Limits.{first_parts, LoadedWithinLimits}
 use Rattle.pure_session_laws.proofs.StoodLaws.{taken-stands}
 use Rattle.pure_session_laws.proofs.OrderLaws.{names-distinct}
 
@@ -51,15 +52,18 @@ few-read place n (a ∷ answers) (f ∷ files) (own, tried, made, rest) =
         let nothing : one_each f.outcome ≡ 0 = ap (λ (g : File). one_each g.outcome) made ∙ ap (λ o. one_each (counted n o)) t in
         omega arith
 
-fits-parts : (n : ℕ) (o : Outcome) → n ≤ most_session_parts → n + file_parts (counted n o) ≤ most_session_parts
+fits-parts : (n : ℕ) (o : Outcome) → n ≤ session_parts_bound → n + file_parts (counted n o) ≤ session_parts_bound
 fits-parts n (Refused reason) h = omega (arith, h)
-fits-parts n (Stands source text) h = by (nat_le (n + part_count text.commands) most_session_parts) refl
+fits-parts n (Stands source text) h = by (nat_le (n + part_count text.commands) (most_session_parts text.version)) refl
   where
-    by : (b : Bool) → nat_le (n + part_count text.commands) most_session_parts ≡ b → n + file_parts (cond b (Stands source text) (Refused TooLarge)) ≤ most_session_parts
-    by true e = leb-true (n + part_count text.commands) most_session_parts e
+    by : (b : Bool) → nat_le (n + part_count text.commands) (most_session_parts text.version) ≡ b → n + file_parts (cond b (Stands source text) (Refused TooLarge)) ≤ session_parts_bound
+    by true e = within (leb-true (n + part_count text.commands) (most_session_parts text.version) e) (session-parts-bounded text.version)
+      where
+        within : {sum most bound : ℕ} → sum ≤ most → most ≤ bound → sum ≤ bound
+        within a b = omega (arith, a, b)
     by false e = omega (arith, h)
 
-parts-read : (place n : ℕ) (answers : List Answer) (files : List File) → n ≤ most_session_parts → AreReadFrom place n answers files → n + total file_parts files ≤ most_session_parts
+parts-read : (place n : ℕ) (answers : List Answer) (files : List File) → n ≤ session_parts_bound → AreReadFrom place n answers files → n + total file_parts files ≤ session_parts_bound
 parts-read place n [] [] h read = omega (arith, h)
 parts-read place n [] (f ∷ files) h read = absurd read
 parts-read place n (a ∷ answers) [] h read = absurd read
@@ -67,6 +71,38 @@ parts-read place n (a ∷ answers) (f ∷ files) h (own, tried, made, rest) =
     let more = parts-read (place + 1) (n + file_parts (counted n own)) answers files (fits-parts n own h) rest in
     let same : file_parts f.outcome ≡ file_parts (counted n own) = ap (λ (g : File). file_parts g.outcome) made in
     omega arith
+
+-- the parts of a file of version 1
+abbrev first_of : Outcome → ℕ
+first_of (Refused reason) = 0
+first_of (Stands source text) = first_parts text
+
+-- A file of version 1 that fits leaves the parts of version 1 so far within the limit, since all before it count.
+fits-first : (n m : ℕ) (o : Outcome) → m ≤ n → m ≤ most_session_parts 1
+    → (m + first_of (counted n o) ≤ n + file_parts (counted n o)) × (m + first_of (counted n o) ≤ most_session_parts 1)
+fits-first n m (Refused reason) below few = (omega (arith, below), omega (arith, few))
+fits-first n m (Stands source text) below few = by (nat_le (n + part_count text.commands) (most_session_parts text.version)) refl
+  where
+    by : (b : Bool) → nat_le (n + part_count text.commands) (most_session_parts text.version) ≡ b
+        → (m + first_of (cond b (Stands source text) (Refused TooLarge)) ≤ n + file_parts (cond b (Stands source text) (Refused TooLarge)))
+        × (m + first_of (cond b (Stands source text) (Refused TooLarge)) ≤ most_session_parts 1)
+    by true e = of_version (nat_eq text.version 1) (leb-true (n + part_count text.commands) (most_session_parts text.version) e)
+      where
+        of_version : (one : Bool) → n + part_count text.commands ≤ cond one 4096 8192
+            → (m + cond one (part_count text.commands) 0 ≤ n + part_count text.commands) × (m + cond one (part_count text.commands) 0 ≤ most_session_parts 1)
+        of_version true room = (omega (arith, below), omega (arith, below, room))
+        of_version false room = (omega (arith, below), omega (arith, few))
+    by false e = (omega (arith, below), omega (arith, few))
+
+first-read : (place n m : ℕ) (answers : List Answer) (files : List File) → m ≤ n → m ≤ most_session_parts 1 → AreReadFrom place n answers files → m + total first_of files ≤ most_session_parts 1
+first-read place n m [] [] below few read = omega (arith, few)
+first-read place n m [] (f ∷ files) below few read = absurd read
+first-read place n m (a ∷ answers) [] below few read = absurd read
+first-read place n m (a ∷ answers) (f ∷ files) below few (own, tried, made, rest) =
+    let here = fits-first n m own below few in
+    let more = first-read (place + 1) (n + file_parts (counted n own)) (m + first_of (counted n own)) answers files here.0 here.1 rest in
+    let same : first_of f.outcome ≡ first_of (counted n own) = ap (λ (g : File). first_of g.outcome) made in
+    omega (arith, more, same)
 
 -- ---- the files that are left
 
@@ -162,7 +198,9 @@ pub loaded-within_limits : LoadedWithinLimits
 loaded-within_limits answers theories refused n of =
     let ones = loaded-weigh one_each (record { nothing = λ r. refl }) answers theories refused n of in
     let parts = loaded-weigh file_parts (record { nothing = λ r. refl }) answers theories refused n of in
+    let firsts = loaded-weigh first_of (record { nothing = λ r. refl }) answers theories refused n of in
     let files = few-read 0 0 answers of.read of.are_read in
     let read = parts-read 0 0 answers of.read (omega arith) of.are_read in
+    let first = first-read 0 0 0 answers of.read (omega arith) (omega arith) of.are_read in
     let size = as-many theories in
-    record { few = omega (arith, ones, files, size); few_parts = omega (arith, parts, read) }
+    record { few = omega (arith, ones, files, size); few_parts = omega (arith, parts, read); few_first = omega (arith, firsts, first) }

@@ -5,8 +5,8 @@ use Rattle.std.proofs.lemmas.Bool.{ltb-false}
 use Rattle.pure_text.specs.Lists.{Each}
 use Rattle.pure_text.proofs.ListLaws.{each-append}
 use Rattle.pure_grammar.specs.Theories.TheoryText.{Step, Done, Close, Have, Command, Class, TypeDecl, Arity, Const, Axiom, Definition, Lemma}
-use Rattle.pure_grammar.specs.Theories.Phrase.{BasicPhrase, ByAssumption, ByRule, ByErule, ByDrule, ByUnfold, MethodPhrase, Alone, Together, StepPhrase, ApplyStep, PreferStep, DeferStep, EndPhrase, DoneEnd, ByEnd, ProofPhrase, ItemPhrase, AxiomPhrase, CommandPhrase, ClassCommand, TypedeclCommand, AritiesCommand, ConstsCommand, AxiomsCommand, DefinitionCommand, LemmaCommand}
-use Rattle.pure_grammar.specs.Theories.PhraseTree.{basic_step, method_steps, step_steps, end_steps, steps_of, proof_steps, item_command, axiom_command, phrase_commands, commands_of}
+use Rattle.pure_grammar.specs.Theories.Phrase.{BasicPhrase, ByAssumption, ByRule, ByErule, ByDrule, ByUnfold, MethodPhrase, Alone, Together, StepPhrase, ApplyStep, PreferStep, DeferStep, EndPhrase, DoneEnd, ByEnd, ProofPhrase, ItemPhrase, AxiomPhrase, HavePhrase, CommandPhrase, ClassCommand, TypedeclCommand, AritiesCommand, ConstsCommand, AxiomsCommand, DefinitionCommand, LemmaCommand}
+use Rattle.pure_grammar.specs.Theories.PhraseTree.{basic_step, method_steps, step_steps, end_steps, steps_of, proof_steps, item_command, axiom_command, have_of, phrase_commands, commands_of}
 use Rattle.pure_graph.specs.Limits.{most_steps}
 use Rattle.pure_graph.specs.Outcome.{is_numbered, is_long, has_long_proof}
 use Rattle.pure_method.specs.Outcomes.{IsScript, ends_here, goes_further}
@@ -67,6 +67,10 @@ axioms-end : (more : List AxiomPhrase) → Each Ends (map axiom_command more)
 axioms-end [] = tt
 axioms-end (a ∷ more) = (tt, axioms-end more)
 
+haves-end : (haves : List HavePhrase) → Each (λ (h : Have). IsScript h.script) (map have_of haves)
+haves-end [] = tt
+haves-end (y ∷ haves) = (proof-script y.proof, haves-end haves)
+
 phrase-ends : (p : CommandPhrase) → Each Ends (phrase_commands p)
 phrase-ends (ClassCommand x above) = (tt, tt)
 phrase-ends (TypedeclCommand params x) = (tt, tt)
@@ -74,7 +78,7 @@ phrase-ends (AritiesCommand con doms class) = (tt, tt)
 phrase-ends (ConstsCommand i is) = (tt, items-end is)
 phrase-ends (AxiomsCommand a more) = (tt, axioms-end more)
 phrase-ends (DefinitionCommand i prop) = (tt, tt)
-phrase-ends (LemmaCommand word a p) = ((tt, proof-script p), tt)
+phrase-ends (LemmaCommand word a haves p) = ((haves-end haves, proof-script p), tt)
 
 commands-end : (ps : List CommandPhrase) → Each Ends (commands_of ps)
 commands-end [] = tt

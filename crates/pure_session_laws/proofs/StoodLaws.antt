@@ -10,7 +10,7 @@ use Rattle.pure_graph.specs.Order.{Loaded, file_of, AreTakenBehind}
 use Rattle.pure_graph.specs.Session.{Refusal, IsLoadingOf}
 use Rattle.pure_graph.specs.declared.outcome.Reason.TheVariants.{TooManyFiles, TooLarge, HeaderName}
 use Rattle.pure_session.proofs.GraphLemmas.{in_mapped}
-use Rattle.pure_session.proofs.LoadedLemmas.{right_of, judged-before, linked-before, counted-before}
+use Rattle.pure_session.proofs.LoadedLemmas.{right_of, judged-before, linked-before, counted-before, tree-known}
 
 -- The file of a theory stands by itself: its bytes aren't too many and have this tree, with the theory's name in front, which isn't too large.
 pub record IsOwn (theory source : List ℕ) (text : TheoryText) : Type 0 where
@@ -33,7 +33,7 @@ left-by theory source tree s x true false a b e = record { headed = a; fitting =
 left-by theory source tree s x false l a b e = absurd (cc)
 
 tree-left : (theory source : List ℕ) (tree : TheoryText) (s : List ℕ) (x : TheoryText) → tree_outcome theory source tree ≡ Stands s x → IsLeft theory source tree s x
-tree-left theory source tree s x e = left-by theory source tree s x (is_headed theory tree) (is_large tree) refl refl e
+tree-left theory source tree s x e = left-by theory source tree s x (is_headed theory tree) (is_large tree) refl refl (tree-known theory source tree s x e)
 
 own-stands : (theory : List ℕ) (bytes : Option (List ℕ)) (s : List ℕ) (x : TheoryText) → IsOwnOutcome theory bytes (Stands s x) → IsOwn theory s x
 own-stands theory None s x own = absurd (cc)

@@ -31,7 +31,6 @@ use Rattle.pure_session_laws.proofs.StoodLaws.{IsOwn, loaded-own}
 use Rattle.pure_session_laws.proofs.HeaderLaws.{IsNameToken, name-token}
 use Rattle.pure_session_laws.proofs.NamedLaws.{is-named, full-named}
 use Rattle.pure_session_laws.proofs.ScriptLaws.{neither, scripts-of}
-use Rattle.pure_session_laws.proofs.AloneLaws.{plain-of}
 
 are-slices : (source : List ℕ) (tokens : List Token) → Spells (length source) tokens source → AreSlices source 0 (length source) tokens
 are-slices source tokens spells = tokens_are_slices 0 (length source) source tokens (omega arith) (omega arith) (subst (Spells (length source) tokens) (sym (whole-range source)) spells)
@@ -108,17 +107,16 @@ well : (texts : List (List ℕ)) (l : Loaded) → AreItsNames texts l → IsOwn 
 well texts l has own =
     let head : IsHead l.name l.text = head-of l.name l.text own.headed in
     let name : IsPlainName l.source l.name = subst (IsPlainName l.source) head.same_name (plain-name l.source l.text own.spelled) in
-    let sizes = neither (nat_lt most_parts (part_count l.text.commands)) (list_any has_long_proof l.text.commands) own.fitting in
+    let sizes = neither (nat_lt (most_parts l.text.version) (part_count l.text.commands)) (list_any has_long_proof l.text.commands) own.fitting in
     let is = own.spelled.2 in
     record {
       small = small-enough (length l.source) own.size;
       ranges = ranges-of l.source own.spelled.0 l.text own.spelled.1 is;
-      alone = plain-of is.file.commands l.text.commands (ap (λ (t : TheoryText). t.commands) is.means);
       named = has l.name (inl name.spelled);
       full = full-of texts l has;
       plain = (name.plain, head.other);
       scripts = scripts-of is.file.commands l.text.commands (ap (λ (t : TheoryText). t.commands) is.means) sizes.1;
-      few = ltb-false most_parts (part_count l.text.commands) sizes.0;
+      few = ltb-false (most_parts l.text.version) (part_count l.text.commands) sizes.0;
     }
 
 pub loaded-well : LoadedWell

@@ -7,7 +7,7 @@ use Rattle.pure_logic.specs.PureContent.{pure_content}
 use Rattle.pure_logic.specs.Beginning.{IsBeginning}
 use Rattle.pure_graph.specs.Order.{Loaded}
 use Rattle.pure_method.specs.Declare.Notes.{Note}
-use Rattle.pure_method.specs.Declare.First.{AreDeclared}
+use Rattle.pure_method.specs.Declare.Fold.{AreDeclared}
 use Rattle.pure_session_laws.specs.Owned.{IsLast}
 use Rattle.pure_session_laws.specs.Ended.{AreEnded, IsGivenParents}
 use Rattle.pure_session_laws.specs.Loaded.{IsLoadedSession}

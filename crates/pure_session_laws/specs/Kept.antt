@@ -6,19 +6,19 @@ use Rattle.pure_logic.specs.Content.{TheoryId, Content, IsContent}
 use Rattle.pure_logic.specs.Beginning.{IsBeginning}
 use Rattle.pure_lookup.specs.Laws.{IsInSession}
 use Rattle.pure_method.specs.Declare.Notes.{Note}
-use Rattle.pure_method.specs.Declare.First.{Declares, AreDeclared}
+use Rattle.pure_method.specs.Declare.Fold.{Declares, AreDeclared}
 use Rattle.pure_session_laws.specs.Owned.{IsLast, IsOwned}
 use Rattle.pure_session_laws.specs.Ended.{AreEnded, IsGivenParents}
 
 -- A command whose label has the index of the content's own theory keeps the declarations owned.
 abbrev pub CommandKeepsOwned : Type 0
-CommandKeepsOwned = (texts : List (List ℕ)) (ended : List Content) (source : List ℕ) (label : Label) (Q : Content) (command : Command) (note : Note) (next : Content)
-    → (theory : TheoryId) → Q.own ≡ Some theory → label.theory ≡ theory.index → IsOwned texts ended Q → Declares texts source label Q command note next → IsOwned texts ended next
+CommandKeepsOwned = (texts : List (List ℕ)) (ended : List Content) (source : List ℕ) (label : Label) (Q : Content) (command : Command) (notes : List Note) (next : Content)
+    → (theory : TheoryId) → Q.own ≡ Some theory → label.theory ≡ theory.index → IsOwned texts ended Q → Declares texts source label Q command notes next → IsOwned texts ended next
 
 -- It keeps the content as look-ups ask of one.
 abbrev pub CommandKeepsSession : Type 0
-CommandKeepsSession = (texts : List (List ℕ)) (source : List ℕ) (label : Label) (Q : Content) (command : Command) (note : Note) (next : Content)
-    → (theory : TheoryId) → Q.own ≡ Some theory → label.theory ≡ theory.index → IsInSession texts Q → Declares texts source label Q command note next → IsInSession texts next
+CommandKeepsSession = (texts : List (List ℕ)) (source : List ℕ) (label : Label) (Q : Content) (command : Command) (notes : List Note) (next : Content)
+    → (theory : TheoryId) → Q.own ≡ Some theory → label.theory ≡ theory.index → IsInSession texts Q → Declares texts source label Q command notes next → IsInSession texts next
 
 -- At first no theory has ended.
 abbrev pub NothingHasEnded : Type 0

@@ -1,62 +1,77 @@
 -- Folds over commands, put together and taken apart.
-use Rattle.std.proofs.Common.{◌≡◌, ℕ, ◌+◌, List, [], ◌∷◌, ◌++◌, length, refl, sym, ap, subst, arith}
+use Rattle.std.proofs.Common.{◌≡◌, ℕ, ◌+◌, List, [], ◌∷◌, ◌++◌, length, append_assoc, append-nil, refl, sym, ap, ◌∙◌, subst, arith}
 use Rattle.pure_grammar.specs.Theories.TheoryText.{Command}
 use Rattle.pure_logic.specs.Content.{Content}
 use Rattle.pure_session_laws.specs.Declare.Notes.{Note}
-use Rattle.pure_session_laws.specs.Declare.First.{Declares, AreDeclared}
+use Rattle.pure_session_laws.specs.Declare.Fold.{Declares, AreDeclared}
 use Rattle.pure_session_meaning.specs.Steps.{command_label}
+use Rattle.pure_session_meaning.proofs.PartLaws.{not-empty, IsPlaced, inside, behind, placed}
 
 -- First some commands, and then others.
 pub declared-append : (texts : List (List ℕ)) (source : List ℕ) (index place : ℕ) (cs ds : List Command) (Q R S : Content) (ns ms : List Note) → AreDeclared texts source index place Q cs ns R
-    → (n : ℕ) → n ≡ place + length ns → AreDeclared texts source index n R ds ms S → AreDeclared texts source index place Q (cs ++ ds) (ns ++ ms) S
+    → (n : ℕ) → n ≡ place + length cs → AreDeclared texts source index n R ds ms S → AreDeclared texts source index place Q (cs ++ ds) (ns ++ ms) S
 declared-append texts source index place [] ds Q R S ns ms h n count k =
-    let none : length ns ≡ 0 = ap length h.0 in
-    let at_start : n ≡ place = omega (arith, count, none) in
+    let at_start : n ≡ place = omega (arith, count) in
     rw h.0 (subst (λ (p : ℕ). AreDeclared texts source index p Q ds ms S) at_start (subst (λ (X : Content). AreDeclared texts source index n X ds ms S) h.1 k))
 declared-append texts source index place (c ∷ cs) ds Q R S ns ms h n count k =
-    let longer : length ns ≡ length (h.0 ∷ h.2) = ap length h.5 in
-    (h.0, h.1, h.2 ++ ms, h.3, declared-append texts source index (place + 1) cs ds h.1 R S h.2 ms h.4 n (omega (arith, count, longer)) k, ap (λ (x : List Note). x ++ ms) h.5)
+    (h.0, h.1, h.2 ++ ms, h.3, declared-append texts source index (place + 1) cs ds h.1 R S h.2 ms h.4 n (omega (arith, count)) k, ap (λ (x : List Note). x ++ ms) h.5 ∙ append_assoc h.0 h.2 ms)
 
 -- One command alone.
-pub declared-one : (texts : List (List ℕ)) (source : List ℕ) (index place : ℕ) (c : Command) (Q R : Content) (note : Note) → Declares texts source (command_label index place) Q c note R → AreDeclared texts source index place Q (c ∷ []) (note ∷ []) R
-declared-one texts source index place c Q R note h = (note, R, [], h, (refl, refl), refl)
+pub declared-one : (texts : List (List ℕ)) (source : List ℕ) (index place : ℕ) (c : Command) (Q R : Content) (notes : List Note) → Declares texts source (command_label index place) Q c notes R → AreDeclared texts source index place Q (c ∷ []) notes R
+declared-one texts source index place c Q R notes h = (notes, R, [], h, (refl, refl), sym (append-nil notes))
 
--- There are as many notes as commands.
-pub declared-count : (texts : List (List ℕ)) (source : List ℕ) (index place : ℕ) (cs : List Command) (Q R : Content) (ns : List Note) → AreDeclared texts source index place Q cs ns R → length ns ≡ length cs
-declared-count texts source index place [] Q R ns h = ap length h.0
-declared-count texts source index place (c ∷ cs) Q R ns h =
-    let longer : length ns ≡ length (h.0 ∷ h.2) = ap length h.5 in
-    let rest : length h.2 ≡ length cs = declared-count texts source index (place + 1) cs h.1 R h.2 h.4 in
-    omega (arith, longer, rest)
-
--- A fold taken apart behind some of its notes.
-pub record IsSplit (texts : List (List ℕ)) (source : List ℕ) (index place : ℕ) (cs : List Command) (Q R : Content) (ns ms : List Note) : Type 0 where
+-- The commands before the one that left this note behind these, that command, and those ahead of it: its notes are these behind those of the commands before it, the note, and the rest.
+pub record IsSplit (texts : List (List ℕ)) (source : List ℕ) (index place : ℕ) (cs : List Command) (Q : Content) (notes : List Note) (note : Note) : Type 0 where
   pub front : List Command
+  pub command : Command
   pub back : List Command
-  pub between : Content
-  pub commands : cs ≡ front ++ back
-  pub first : AreDeclared texts source index place Q front ns between
-  pub second : AreDeclared texts source index (place + length ns) between back ms R
+  pub before : Content
+  pub after : Content
+  pub whole : List Note
+  pub inner : List Note
+  pub rest : List Note
+  pub commands : cs ≡ front ++ command ∷ back
+  pub notes_are : notes ≡ whole ++ inner
+  pub first : AreDeclared texts source index place Q front whole before
+  pub declares : Declares texts source (command_label index (place + length front)) before command (inner ++ note ∷ rest) after
 
-pub declared-split : (texts : List (List ℕ)) (source : List ℕ) (index place : ℕ) (cs : List Command) (Q R : Content) (ns ms : List Note) → AreDeclared texts source index place Q cs (ns ++ ms) R → IsSplit texts source index place cs Q R ns ms
-declared-split texts source index place cs Q R [] ms h = record {
-  front = [];
-  back = cs;
-  between = Q;
-  commands = refl;
-  first = (refl, refl);
-  second = subst (λ (p : ℕ). AreDeclared texts source index p Q cs ms R) (omega arith) h;
-}
-declared-split texts source index place [] Q R (n ∷ ns) ms h = absurd (cc)
-declared-split texts source index place (c ∷ cs) Q R (n ∷ ns) ms h =
-    let same : h.0 ≡ n = cc in
-    let rest : h.2 ≡ ns ++ ms = cc in
-    let more = declared-split texts source index (place + 1) cs h.1 R ns ms (subst (λ (x : List Note). AreDeclared texts source index (place + 1) h.1 cs x R) rest h.4) in
-    record {
-      front = c ∷ more.front;
-      back = more.back;
-      between = more.between;
-      commands = ap (λ (x : List Command). c ∷ x) more.commands;
-      first = (h.0, h.1, ns, h.3, more.first, ap (λ (x : Note). x ∷ ns) (sym same));
-      second = subst (λ (p : ℕ). AreDeclared texts source index p more.between more.back ms R) (omega arith) more.second;
-    }
+module _ (texts : List (List ℕ)) (source : List ℕ) (index : ℕ) (note : Note) (more : List Note) (last : Content) where
+  pub declared-split : (cs : List Command) (place : ℕ) (Q : Content) (notes : List Note) → AreDeclared texts source index place Q cs (notes ++ note ∷ more) last → IsSplit texts source index place cs Q notes note
+  declared-split [] place Q notes h = absurd (not-empty notes note more h.0)
+  declared-split (c ∷ cs) place Q notes (first, next, second, d, h, e) =
+      by (placed notes note more first second e) (λ between is. declared-split cs (place + 1) next between (subst (λ (ns : List Note). AreDeclared texts source index (place + 1) next cs ns last) is h))
+    where
+      by : IsPlaced notes note more first second → ((between : List Note) → second ≡ between ++ note ∷ more → IsSplit texts source index (place + 1) cs next between note) → IsSplit texts source index place (c ∷ cs) Q notes note
+      by (inside rest is) on =
+          let here : place ≡ place + 0 = omega arith in
+          record {
+            front = [];
+            command = c;
+            back = cs;
+            before = Q;
+            after = next;
+            whole = [];
+            inner = notes;
+            rest = rest;
+            commands = refl;
+            notes_are = refl;
+            first = (refl, refl);
+            declares = subst (λ (n : ℕ). Declares texts source (command_label index n) Q c (notes ++ note ∷ rest) next) here (subst (λ (ns : List Note). Declares texts source (command_label index place) Q c ns next) is d);
+          }
+      by (behind between a b) on =
+          let w = on between b in
+          let count : place + 1 + length w.front ≡ place + length (c ∷ w.front) = omega arith in
+          record {
+            front = c ∷ w.front;
+            command = w.command;
+            back = w.back;
+            before = w.before;
+            after = w.after;
+            whole = first ++ w.whole;
+            inner = w.inner;
+            rest = w.rest;
+            commands = ap (λ (ds : List Command). c ∷ ds) w.commands;
+            notes_are = a ∙ ap (λ (ns : List Note). first ++ ns) w.notes_are ∙ sym (append_assoc first w.whole w.inner);
+            first = (first, next, w.whole, d, w.first, refl);
+            declares = subst (λ (n : ℕ). Declares texts source (command_label index n) w.before w.command (w.inner ++ note ∷ w.rest) w.after) count w.declares;
+          }

@@ -4,12 +4,12 @@ use Rattle.pure_grammar.specs.Theories.TheoryText.{Command}
 use Rattle.pure_logic.specs.Content.{Content}
 use Rattle.pure_graph.specs.Order.{Loaded}
 use Rattle.pure_session_laws.specs.Declare.Notes.{Note}
-use Rattle.pure_session_laws.specs.Declare.First.{AreDeclared}
+use Rattle.pure_session_laws.specs.Declare.Fold.{AreDeclared}
 use Rattle.pure_session_laws.specs.Loaded.{IsLoadedSession}
 use Rattle.pure_session_meaning.specs.Verdicts.{Verdict, Ran, IsTheoryAt, Begins, Closes, barred, ran, AllClose}
 use Rattle.pure_session_meaning.specs.Statements.{IsRun}
-use Rattle.pure_session_meaning.proofs.FoldLaws.{declared-split}
-use Rattle.pure_session_meaning.proofs.StepLaws.{theory-once, run_begins}
+use Rattle.pure_session_meaning.proofs.StepLaws.{theory-once}
+use Rattle.pure_session_meaning.proofs.OrderlyLaws.{begun-ordered}
 use Rattle.pure_session_meaning.proofs.OnceLaws.{begins-once, barred-or-begins, declared-once, all-once}
 
 -- The fold over the first of some commands.
@@ -25,32 +25,12 @@ declared-cut texts source index place [] ds Q R notes h = record { front = []; b
 declared-cut texts source index place (c ∷ cs) ds Q R notes h =
     let rest = declared-cut texts source index (place + 1) cs ds h.1 R h.2 h.4 in
     record {
-      front = h.0 ∷ rest.front;
+      front = h.0 ++ rest.front;
       back = rest.back;
       between = rest.between;
-      notes_are = h.5 ∙ ap (λ (ns : List Note). h.0 ∷ ns) rest.notes_are;
+      notes_are = h.5 ∙ ap (λ (ns : List Note). h.0 ++ ns) rest.notes_are ∙ sym (append_assoc h.0 rest.front rest.back);
       first = (h.0, h.1, rest.front, h.3, rest.first, refl);
     }
-
--- A run up to some of its notes.
-pub run-front : (texts : List (List ℕ)) (theories : List Loaded) (index : ℕ) (front back : List Note) (now : Content) (left : List Command) → IsRun texts theories index (front ++ back) now left
-    → (between : Content) × (rest : List Command) × IsRun texts theories index front between rest
-run-front texts theories index front back now left run =
-    let split = declared-split texts run.theory.source index 0 run.done run.first now front back run.declared in (
-      split.between,
-      split.back ++ left,
-      record {
-        theory = run.theory;
-        is_at = run.is_at;
-        parents = run.parents;
-        closed = run.closed;
-        first = run.first;
-        begins = run.begins;
-        done = split.front;
-        commands = run.commands ∙ ap (λ (cs : List Command). cs ++ left) split.commands ∙ append_assoc split.front split.back left;
-        declared = split.first;
-      },
-    )
 
 module _ (texts : List (List ℕ)) (theories : List Loaded) (session : IsLoadedSession texts theories) where
   -- A run that has the commands of another, and further ones, has its notes, and further ones.
@@ -70,8 +50,8 @@ module _ (texts : List (List ℕ)) (theories : List Loaded) (session : IsLoadedS
         let cut = declared-cut texts theory.source index 0 run.done further first later more d in
         let moved : AreDeclared texts run.theory.source index 0 run.first run.done cut.front cut.between =
         subst (λ (t : Loaded). AreDeclared texts t.source index 0 run.first run.done cut.front cut.between) (sym same) (subst (λ (Q : Content). AreDeclared texts theory.source index 0 Q run.done cut.front cut.between) firsts cut.first) in
-        let begun = subst (λ (cs : List Command). IsRun texts theories index [] run.first cs) run.commands (run_begins texts theories index run.theory run.is_at run.parents run.closed run.first run.begins) in
-        let fronts : cut.front ≡ notes = (declared-once texts theories session index run.theory run.is_at run.parents run.done left [] run.first begun cut.front notes cut.between now moved run.declared).0 in
+        let order = begun-ordered texts theories session index run.theory run.is_at run.parents run.closed run.first run.begins in
+        let fronts : cut.front ≡ notes = (declared-once texts theories session run.theory.source index run.done 0 run.first order cut.front notes cut.between now moved run.declared).0 in
         (cut.back, cut.notes_are ∙ ap (λ (ns : List Note). ns ++ cut.back) fronts)
 
     -- Where the theory closes, it ran, and its notes begin with those of the run.

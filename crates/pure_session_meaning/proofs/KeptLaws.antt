@@ -1,12 +1,12 @@
 -- What the contents of a session keep, each of them has.
-use Rattle.std.proofs.Common.{◌≡◌, ℕ, ◌+◌, ◌≤◌, suc, List, [], ◌∷◌, ◌++◌, length, append_assoc, append-nil, length-append, inl, refl, sym, ap, ◌∙◌, subst, arith}
+use Rattle.std.proofs.Common.{◌≡◌, ℕ, ◌+◌, ◌≤◌, suc, List, [], ◌∷◌, ◌++◌, length, append_assoc, append-nil, length-append, inl, refl, sym, ◌∙◌, subst, arith}
 use Rattle.pure_text.specs.Lists.{Each, EachTwo}
 use Rattle.pure_definitions.specs.Names.{Label}
 use Rattle.pure_grammar.specs.Theories.TheoryText.{Command}
 use Rattle.pure_logic.specs.Content.{Content}
 use Rattle.pure_graph.specs.Order.{Loaded}
 use Rattle.pure_session_laws.specs.Declare.Notes.{Note}
-use Rattle.pure_session_laws.specs.Declare.First.{AreDeclared}
+use Rattle.pure_session_laws.specs.Declare.Fold.{AreDeclared}
 use Rattle.pure_session_laws.specs.Loaded.{IsLoadedSession}
 use Rattle.pure_session_meaning.specs.Verdicts.{Verdict, Barred, Ran, IsTheoryAt, AreLast, Begins, beginning_over, Closes, barred, ran, AllClose, nothing, also}
 use Rattle.pure_session_meaning.specs.Statements.{IsRun}
@@ -14,18 +14,16 @@ use Rattle.pure_session_meaning.specs.Steps.{command_label}
 use Rattle.pure_session_meaning.specs.Kept.{IsKept}
 use Rattle.pure_session_meaning.proofs.FoldLaws.{declared-append, declared-one}
 
-pub length-more : (notes : List Note) (note : Note) → length (notes ++ note ∷ []) ≡ length notes + 1
-length-more notes note = omega (arith, length-append notes (note ∷ []))
-
 module _ (texts : List (List ℕ)) (theories : List Loaded) (session : IsLoadedSession texts theories) (Has : Label → Content → Type 0) (kept : IsKept texts theories Has) where
-  -- The last content of a theory that ran has the property.
+  -- The last content of a theory that ran has the property, with the label of some place.
   abbrev pub HasLast : ℕ → Verdict → Type 0
   HasLast index (Barred row) = Unit {0}
-  HasLast index (Ran notes last) = Has (command_label index (length notes)) last
+  HasLast index (Ran notes last) = (place : ℕ) × Has (command_label index place) last
 
   last-later : (place index p : ℕ) (v : Verdict) (Q : Content) → index ≡ suc place → p ≤ place → HasLast p v → (notes : List Note) → v ≡ Ran notes Q → Has (command_label index 0) Q
   last-later place index p v Q is short h notes e =
-      kept.later (command_label p (length notes)) (command_label index 0) Q (inl (omega (arith, is, short))) (subst (λ (w : Verdict). HasLast p w) e h)
+      let w = subst (λ (w : Verdict). HasLast p w) e h in
+      kept.later (command_label p w.0) (command_label index 0) Q (inl (omega (arith, is, short))) w.1
 
   lasts-have : (place index : ℕ) → index ≡ suc place → (parents : List ℕ) (verdicts : List Verdict) (contents : List Content) → Each (λ p. (1 ≤ p) × (p ≤ place)) parents → EachTwo HasLast parents verdicts → AreLast verdicts contents
       → Each (Has (command_label index 0)) contents
@@ -46,11 +44,11 @@ module _ (texts : List (List ℕ)) (theories : List Loaded) (session : IsLoadedS
         kept.begins index theory is_at parents closed first begins (over-have (command_label index 0) begins.contents contents)
 
     -- Some commands of a run more.
-    walk : (todo left done : List Command) (notes more : List Note) (now last : Content) → AreDeclared texts theory.source index 0 first done notes now → theory.text.commands ≡ done ++ (todo ++ left) → Has (command_label index (length notes)) now
-        → AreDeclared texts theory.source index (length notes) now todo more last → Has (command_label index (length (notes ++ more))) last
+    walk : (todo left done : List Command) (notes more : List Note) (now last : Content) → AreDeclared texts theory.source index 0 first done notes now → theory.text.commands ≡ done ++ (todo ++ left) → Has (command_label index (length done)) now
+        → AreDeclared texts theory.source index (length done) now todo more last → Has (command_label index (length done + length todo)) last
     walk [] left done notes more now last before commands k d =
-        let none : notes ≡ notes ++ more = sym (append-nil notes) ∙ ap (λ (ns : List Note). notes ++ ns) (sym d.0) in
-        subst (λ (ns : List Note). Has (command_label index (length ns)) last) none (subst (λ (Q : Content). Has (command_label index (length notes)) Q) (sym d.1) k)
+        let count : length done ≡ length done + 0 = omega arith in
+        subst (λ (n : ℕ). Has (command_label index n) last) count (subst (λ (Q : Content). Has (command_label index (length done)) Q) (sym d.1) k)
     walk (c ∷ todo) left done notes more now last before commands k d =
         let run : IsRun texts theories index notes now (c ∷ (todo ++ left)) = record {
           theory = theory;
@@ -63,28 +61,34 @@ module _ (texts : List (List ℕ)) (theories : List Loaded) (session : IsLoadedS
           commands = commands;
           declared = before;
         } in
-        let longer = length-more notes d.0 in
-        let next-has : Has (command_label index (length notes + 1)) d.1 = kept.declares index notes now c (todo ++ left) run d.0 d.1 d.3 k in
-        let one = declared-append texts theory.source index 0 done (c ∷ []) first now d.1 notes (d.0 ∷ []) before (length notes) (omega arith) (declared-one texts theory.source index (length notes) c now d.1 d.0 d.3) in
-        let rest : AreDeclared texts theory.source index (length (notes ++ d.0 ∷ [])) d.1 todo d.2 last = subst (λ (n : ℕ). AreDeclared texts theory.source index n d.1 todo d.2 last) (sym longer) d.4 in
-        let here : Has (command_label index (length (notes ++ d.0 ∷ []))) d.1 = subst (λ (n : ℕ). Has (command_label index n) d.1) (sym longer) next-has in
-        let all : (notes ++ d.0 ∷ []) ++ d.2 ≡ notes ++ more = append_assoc notes (d.0 ∷ []) d.2 ∙ ap (λ (ns : List Note). notes ++ ns) (sym d.5) in
-        subst (λ (ns : List Note). Has (command_label index (length ns)) last) all
-        (walk todo left (done ++ c ∷ []) (notes ++ d.0 ∷ []) d.2 d.1 last one (commands ∙ sym (append_assoc done (c ∷ []) (todo ++ left))) here rest)
+        let longer : length (done ++ c ∷ []) ≡ length done + 1 = omega (arith, length-append done (c ∷ [])) in
+        let next-has : Has (command_label index (length done + 1)) d.1 = kept.declares index notes now c (todo ++ left) run d.0 d.1 d.3 k in
+        let one = declared-append texts theory.source index 0 done (c ∷ []) first now d.1 notes d.0 before (length done) (omega arith) (declared-one texts theory.source index (length done) c now d.1 d.0 d.3) in
+        let rest : AreDeclared texts theory.source index (length (done ++ c ∷ [])) d.1 todo d.2 last = subst (λ (n : ℕ). AreDeclared texts theory.source index n d.1 todo d.2 last) (sym longer) d.4 in
+        let here : Has (command_label index (length (done ++ c ∷ []))) d.1 = subst (λ (n : ℕ). Has (command_label index n) d.1) (sym longer) next-has in
+        let count : length (done ++ c ∷ []) + length todo ≡ length done + length (c ∷ todo) = omega (arith, longer) in
+        subst (λ (n : ℕ). Has (command_label index n) last) count
+        (walk todo left (done ++ c ∷ []) (notes ++ d.0) d.2 d.1 last one (commands ∙ sym (append_assoc done (c ∷ []) (todo ++ left))) here rest)
 
-    pub run-has-so : (todo left : List Command) (notes : List Note) (last : Content) → theory.text.commands ≡ todo ++ left → AreDeclared texts theory.source index 0 first todo notes last → Has (command_label index (length notes)) last
-    run-has-so todo left notes last commands d = walk todo left [] [] notes first last (refl, refl) commands first-has d
+    pub run-has-so : (todo left : List Command) (notes : List Note) (last : Content) → theory.text.commands ≡ todo ++ left → AreDeclared texts theory.source index 0 first todo notes last → Has (command_label index (length todo)) last
+    run-has-so todo left notes last commands d =
+        let count : 0 + length todo ≡ length todo = omega arith in
+        subst (λ (n : ℕ). Has (command_label index n) last) count (walk todo left [] [] notes first last (refl, refl) commands first-has d)
 
   mutual
     pub closes-has : {index : ℕ} {v : Verdict} → Closes texts theories index v → HasLast index v
     closes-has (barred is_at all is) = tt
     closes-has (ran {index = index} {theory = theory} {parents = parents} {first = first} {last = last} {notes = notes} is_at all begins declared) =
-        run-has-so index theory is_at parents all first begins (all-have all) theory.text.commands [] notes last (sym (append-nil theory.text.commands)) declared
+        (length theory.text.commands, run-has-so index theory is_at parents all first begins (all-have all) theory.text.commands [] notes last (sym (append-nil theory.text.commands)) declared)
 
     pub all-have : {parents : List ℕ} {verdicts : List Verdict} → AllClose texts theories parents verdicts → EachTwo HasLast parents verdicts
     all-have nothing = tt
     all-have (also c cs) = (closes-has c, all-have cs)
 
-  -- Each content of a run has it.
-  pub run-has : (index : ℕ) (notes : List Note) (now : Content) (left : List Command) → IsRun texts theories index notes now left → Has (command_label index (length notes)) now
+  -- The content with which a theory begins has it,
+  pub begun-has : (index : ℕ) (theory : Loaded) → IsTheoryAt theories index theory → (parents : List Verdict) → AllClose texts theories theory.parents parents → (first : Content) → Begins texts index theory parents first → Has (command_label index 0) first
+  begun-has index theory is_at parents closed first begins = first-has index theory is_at parents closed first begins (all-have closed)
+
+  -- and so has each content of a run.
+  pub run-has : (index : ℕ) (notes : List Note) (now : Content) (left : List Command) (run : IsRun texts theories index notes now left) → Has (command_label index (length run.done)) now
   run-has index notes now left run = run-has-so index run.theory run.is_at run.parents run.closed run.first run.begins (all-have run.closed) run.done left notes now run.commands run.declared

@@ -2,16 +2,17 @@ pub use Rattle.pure_session_laws.proofs.Theory as Theory
 pub use Rattle.pure_session_laws.proofs.Declare as Declare
 pub use Rattle.pure_session_laws.proofs.Method as Method
 pub use Rattle.pure_session_laws.proofs as SessionLaws
+pub mod PartLaws
 pub mod FoldLaws
 pub mod StepLaws
 pub mod KeptLaws
 pub mod TextLaws
 pub mod OrderedLaws
 pub mod OrderlyLaws
-pub mod PromiseLaws
-pub mod ForkLaws
-pub mod ProvableLaws
 pub mod NoteLaws
+pub mod ForkLaws
+pub mod PromiseLaws
+pub mod ProvableLaws
 pub mod ConflictLaws
 pub mod OnceLaws
 pub mod FrontLaws
@@ -22,3 +23,5 @@ pub mod OwnerLaws
 pub mod EndLaws
 pub mod ParentLaws
 pub mod CloseLaws
+pub mod OneLemmaLaws
+pub mod FirstLaws

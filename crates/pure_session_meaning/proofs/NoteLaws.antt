@@ -1,12 +1,14 @@
--- The notes of a theory that closed, and the lemmas among them.
-use Rattle.std.proofs.Common.{◌≡◌, ℕ, List, [], ◌∷◌, ◌++◌, append-nil, refl, sym, ap, subst, inl, inr}
+-- The notes of a theory that closed, and the lemmas and haves among them.
+use Rattle.std.proofs.Common.{◌≡◌, ℕ, List, [], ◌∷◌, ◌++◌, append-nil, length, refl, sym, ap, subst, inl, inr}
 use Rattle.pure_text.specs.Lists.{IsIn}
-use Rattle.pure_text.proofs.ListLaws.{in-append_left, in-append_right}
+use Rattle.pure_text.proofs.ListLaws.{in-append_right}
+use Rattle.pure_grammar.specs.Theories.TheoryText.{Command}
 use Rattle.pure_logic.specs.Content.{Content}
 use Rattle.pure_graph.specs.Order.{Loaded}
 use Rattle.pure_session_laws.specs.Declare.Notes.{Note, Fork, Said, Forked}
 use Rattle.pure_session_meaning.specs.Verdicts.{Verdict, Ran, Closes, barred, ran}
 use Rattle.pure_session_meaning.specs.Statements.{forks_of, IsRun}
+use Rattle.pure_session_meaning.specs.Laws.{IsSomeFork}
 
 pub forks-append : (ns ms : List Note) → forks_of (ns ++ ms) ≡ forks_of ns ++ forks_of ms
 forks-append [] ms = refl
@@ -35,17 +37,27 @@ closes-run {texts = texts} {theories = theories} {index = index} (ran {theory = 
         let second : P ≡ Q = cc in
         subst (λ (x : List Note). IsRun texts theories index x Q []) first (subst (λ (x : Content). IsRun texts theories index xs x []) second run)
 
--- Where a lemma stands among notes.
-pub fork-place : (ns : List Note) (f : Fork) → IsIn f (forks_of ns) → (front : List Note) × (back : List Note) × (ns ≡ (front ++ Forked f ∷ []) ++ back)
+-- Where a fork stands among notes.
+fork-place : (ns : List Note) (f : Fork) → IsIn (Forked f) ns → (front : List Note) × (back : List Note) × (ns ≡ front ++ Forked f ∷ back)
 fork-place [] f m = absurd m
-fork-place (Said row ∷ ns) f m = let w = fork-place ns f m in (Said row ∷ w.0, w.1, ap (λ (x : List Note). Said row ∷ x) w.2)
-fork-place (Forked g ∷ ns) f m = elim m [
-  | inl same ↦ ([], ns, ap (λ (x : Fork). Forked x ∷ ns) (sym same))
-  | inr later ↦ (let w = fork-place ns f later in (Forked g ∷ w.0, w.1, ap (λ (x : List Note). Forked g ∷ x) w.2))
+fork-place (n ∷ ns) f m = elim m [
+  | inl same ↦ ([], ns, ap (λ (x : Note). x ∷ ns) (sym same))
+  | inr later ↦ (let w = fork-place ns f later in (n ∷ w.0, w.1, ap (λ (x : List Note). n ∷ x) w.2))
 ]
 
-pub fork-in : (f : Fork) (ns ms : List Note) → IsIn f (forks_of ((ns ++ Forked f ∷ []) ++ ms))
-fork-in f ns ms =
-    let first : forks_of (ns ++ Forked f ∷ []) ≡ forks_of ns ++ f ∷ [] = forks-append ns (Forked f ∷ []) in
-    let here : IsIn f (forks_of (ns ++ Forked f ∷ [])) = subst (λ (fs : List Fork). IsIn f fs) (sym first) (in-append_right f (forks_of ns) (f ∷ []) (inl refl)) in
-    subst (λ (fs : List Fork). IsIn f fs) (sym (forks-append (ns ++ Forked f ∷ []) ms)) (in-append_left f (forks_of (ns ++ Forked f ∷ [])) (forks_of ms) here)
+pub forked-in : (ns : List Note) (f : Fork) → IsIn f (forks_of ns) → IsIn (Forked f) ns
+forked-in [] f m = m
+forked-in (Said row ∷ ns) f m = inr (forked-in ns f m)
+forked-in (Forked g ∷ ns) f m = elim m [ inl same ↦ inl (ap Forked same) | inr later ↦ inr (forked-in ns f later) ]
+
+pub fork-here : (f : Fork) (ns ms : List Note) → IsIn (Forked f) (ns ++ Forked f ∷ ms)
+fork-here f ns ms = in-append_right (Forked f) ns (Forked f ∷ ms) (inl refl)
+
+pub fork-in : (f : Fork) (ns ms : List Note) → IsIn f (forks_of (ns ++ Forked f ∷ ms))
+fork-in f ns ms = subst (λ (fs : List Fork). IsIn f fs) (sym (forks-append ns (Forked f ∷ ms))) (in-append_right f (forks_of ns) (f ∷ forks_of ms) (inl refl))
+
+-- A fork among the notes of a run is bound in the session.
+pub run-fork : (texts : List (List ℕ)) (theories : List Loaded) (index : ℕ) (notes : List Note) (now : Content) (left : List Command) → IsRun texts theories index notes now left → (f : Fork) → IsIn (Forked f) notes → IsSomeFork texts theories f
+run-fork texts theories index notes now left run f m =
+    let w = fork-place notes f m in
+    (index, length (forks_of w.0), record { notes = w.0; more = w.1; now = now; left = left; run = subst (λ (ns : List Note). IsRun texts theories index ns now left) w.2 run; count = refl })

@@ -1,5 +1,5 @@
 -- One thing at most becomes of a theory.
-use Rattle.std.proofs.Common.{◌≡◌, ℕ, List, [], ◌∷◌, ◌++◌, length, append-nil, refl, sym, ap, ◌∙◌, subst}
+use Rattle.std.proofs.Common.{◌≡◌, ℕ, ◌+◌, List, [], ◌∷◌, ◌++◌, sym, ap, ◌∙◌, subst, refl}
 use Rattle.pure_grammar.specs.Theories.TheoryText.{Command}
 use Rattle.pure_logic.specs.Content.{Content}
 use Rattle.pure_logic.specs.Beginning.{IsBeginning}
@@ -12,16 +12,14 @@ use Rattle.pure_statements.specs.declared.reason.Reason.TheVariants.{NotCoregula
 use Rattle.pure_graph.specs.Order.{Loaded}
 use Rattle.pure_graph.specs.Session.{parent_refused_text}
 use Rattle.pure_session_laws.specs.Declare.Notes.{Note}
-use Rattle.pure_session_laws.specs.Declare.First.{AreDeclared}
-use Rattle.pure_session_laws.proofs.Declare.OnceLaws.{declares_once}
+use Rattle.pure_session_laws.specs.Declare.Fold.{AreDeclared}
+use Rattle.pure_session_laws.proofs.Declare.PartOnceLaws.{commands_once}
 use Rattle.pure_session_laws.specs.Loaded.{IsLoadedSession}
 use Rattle.pure_session_meaning.specs.Verdicts.{Verdict, Barred, Ran, IsTheoryAt, refused_theory, IsFirstBarred, AreLast, beginning_over, Begins, IsBarred, by_parent, not_coregular, Closes, barred, ran, AllClose, nothing, also}
-use Rattle.pure_session_meaning.specs.Statements.{IsRun}
 use Rattle.pure_session_meaning.specs.Steps.{command_label}
 use Rattle.pure_session_meaning.specs.Laws.{ClosesOnce}
-use Rattle.pure_session_meaning.proofs.StepLaws.{theory-once, run_begins, run_goes_on}
-use Rattle.pure_session_meaning.proofs.KeptLaws.{length-more}
-use Rattle.pure_session_meaning.proofs.OrderlyLaws.{run-ordered}
+use Rattle.pure_session_meaning.proofs.StepLaws.{theory-once}
+use Rattle.pure_session_meaning.proofs.OrderlyLaws.{HasOrder, begun-ordered, next-orderly}
 use Rattle.pure_session_meaning.proofs.ConflictLaws.{conflict-or-merge, conflict-once}
 
 last-once : (v : Verdict) (Q R : Content) (ns ms : List Note) → v ≡ Ran ns Q → v ≡ Ran ms R → Q ≡ R
@@ -84,20 +82,15 @@ module _ (texts : List (List ℕ)) (theories : List Loaded) (session : IsLoadedS
         reasons : (k c d l a b : ℕ) → k ≡ l → c ≡ a → d ≡ b → refused_theory theory.name (reason_text texts [] (NotCoregular k c d)) ≡ refused_theory theory.name (reason_text texts [] (NotCoregular l a b))
         reasons k c d l a b p q r = λ i. refused_theory theory.name (reason_text texts [] (NotCoregular (p i) (q i) (r i)))
 
-    -- The commands of a run leave one list of notes and one content at most.
-    pub declared-once : (todo left : List Command) (notes : List Note) (now : Content) → IsRun texts theories index notes now (todo ++ left) → (more other : List Note) (last final : Content)
-        → AreDeclared texts theory.source index (length notes) now todo more last → AreDeclared texts theory.source index (length notes) now todo other final → (more ≡ other) × (last ≡ final)
-    declared-once [] left notes now run more other last final h k = (h.0 ∙ sym k.0, h.1 ∙ sym k.1)
-    declared-once (c ∷ todo) left notes now run more other last final h k =
-        let order = (run-ordered texts theories session index notes now (c ∷ (todo ++ left)) run).orderly in
-        let same = declares_once texts theory.source (command_label index (length notes)) now c h.0 k.0 h.1 k.1 order.in_session order.good h.3 k.3 in
-        let goes = run_goes_on texts theories index theory is_at notes now c (todo ++ left) run h.0 h.1 h.3 in
-        let longer = length-more notes h.0 in
-        let first : AreDeclared texts theory.source index (length (notes ++ h.0 ∷ [])) h.1 todo h.2 last = subst (λ (n : ℕ). AreDeclared texts theory.source index n h.1 todo h.2 last) (sym longer) h.4 in
-        let second : AreDeclared texts theory.source index (length (notes ++ h.0 ∷ [])) h.1 todo k.2 final =
-        subst (λ (Q : Content). AreDeclared texts theory.source index (length (notes ++ h.0 ∷ [])) Q todo k.2 final) (sym same.1) (subst (λ (n : ℕ). AreDeclared texts theory.source index n k.1 todo k.2 final) (sym longer) k.4) in
-        let rest = declared-once todo left (notes ++ h.0 ∷ []) h.1 goes h.2 k.2 last final first second in
-        (h.5 ∙ ap (λ (n : Note). n ∷ h.2) same.0 ∙ ap (λ (ns : List Note). k.0 ∷ ns) rest.0 ∙ sym k.5, rest.1)
+  -- Over such a content as a session has, commands leave one list of notes and one content at most.
+  pub declared-once : (source : List ℕ) (index : ℕ) (todo : List Command) (place : ℕ) (now : Content) → HasOrder texts (command_label index place) now → (more other : List Note) (last final : Content)
+      → AreDeclared texts source index place now todo more last → AreDeclared texts source index place now todo other final → (more ≡ other) × (last ≡ final)
+  declared-once source index [] place now order more other last final h k = (h.0 ∙ sym k.0, h.1 ∙ sym k.1)
+  declared-once source index (c ∷ todo) place now order more other last final h k =
+      let same = commands_once texts source (command_label index place) now c h.0 k.0 h.1 k.1 order.orderly.in_session order.orderly.good h.3 k.3 in
+      let second : AreDeclared texts source index (place + 1) h.1 todo k.2 final = subst (λ (Q : Content). AreDeclared texts source index (place + 1) Q todo k.2 final) (sym same.1) k.4 in
+      let rest = declared-once source index todo (place + 1) h.1 (next-orderly texts theories session source index place now c h.0 h.1 order h.3) h.2 k.2 last final h.4 second in
+      (h.5 ∙ ap (λ (ns : List Note). ns ++ h.2) same.0 ∙ ap (λ (ns : List Note). k.0 ++ ns) rest.0 ∙ sym k.5, rest.1)
 
   -- a theory that closes twice, over the same parents
   module _ (index : ℕ) (theory : Loaded) (is_at : IsTheoryAt theories index theory) (parents : List Verdict) (closed : AllClose texts theories theory.parents parents) where
@@ -105,8 +98,8 @@ module _ (texts : List (List ℕ)) (theories : List Loaded) (session : IsLoadedS
         → AreDeclared texts theory.source index 0 first theory.text.commands notes last → AreDeclared texts theory.source index 0 other theory.text.commands more final → Ran notes last ≡ Ran more final
     run-once first other last final notes more b c h k =
         let same : other ≡ first = begins-once index theory is_at parents other first c b in
-        let begun : IsRun texts theories index [] first (theory.text.commands ++ []) = subst (λ (cs : List Command). IsRun texts theories index [] first cs) (sym (append-nil theory.text.commands)) (run_begins texts theories index theory is_at parents closed first b) in
-        let all = declared-once index theory is_at parents theory.text.commands [] [] first begun notes more last final h (subst (λ (Q : Content). AreDeclared texts theory.source index 0 Q theory.text.commands more final) same k) in
+        let order : HasOrder texts (command_label index 0) first = begun-ordered texts theories session index theory is_at parents closed first b in
+        let all = declared-once theory.source index theory.text.commands 0 first order notes more last final h (subst (λ (Q : Content). AreDeclared texts theory.source index 0 Q theory.text.commands more final) same k) in
         pair notes more last final all.0 all.1
       where
         pair : (ns ms : List Note) (Q R : Content) → ns ≡ ms → Q ≡ R → Ran ns Q ≡ Ran ms R

@@ -1,5 +1,5 @@
 -- Each content of a session is good, in the session, and with tidy facts alone.
-use Rattle.std.proofs.Common.{◌≡◌, ◌≢◌, ℕ, ◌+◌, List, ◌∷◌, length, refl, sym, ◌∙◌, subst, inl, inr, arith}
+use Rattle.std.proofs.Common.{◌≡◌, ◌≢◌, ℕ, ◌+◌, List, [], ◌∷◌, length, refl, sym, ap, ◌∙◌, subst, inl, inr, arith}
 use Rattle.std.specs.Prelude.{Some}
 use Rattle.pure_text.specs.Lists.{IsIn, Each}
 use Rattle.pure_text.proofs.ListLaws.{each_at, each_of, each_imply, any_some}
@@ -20,22 +20,22 @@ use Rattle.pure_session_laws.specs.Theory.Refusals.{IsBefore, IsLabelAbove}
 use Rattle.pure_session_laws.proofs.Theory.MergeLaws.{sound_beginning}
 use Rattle.pure_graph.specs.Order.{Loaded}
 use Rattle.pure_session_laws.specs.Declare.Notes.{Note}
-use Rattle.pure_session_laws.specs.Declare.First.{Declares}
+use Rattle.pure_session_laws.specs.Declare.Parts.{Part, DeclaresPart}
+use Rattle.pure_session_laws.specs.Declare.Fold.{part_label, AreParts, Declares}
 use Rattle.pure_session_laws.specs.Declare.Premises.{HasClassesAbove}
 use Rattle.pure_session_laws.specs.Declare.Grown.{IsGrown}
 use Rattle.pure_session_laws.specs.Declare.Tidy.{IsTidyDecl}
 use Rattle.pure_session_laws.specs.Declare.Good.{IsGood}
-use Rattle.pure_session_laws.proofs.Declare.GrownLaws.{declares_grown}
-use Rattle.pure_session_laws.proofs.Declare.TidyDeclared.{pure_is_tidy, declares_tidy}
-use Rattle.pure_session_laws.proofs.Declare.GoodLaws.{pure_is_good, declares_good}
-use Rattle.pure_session_laws.proofs.Declare.PromisedLaws.{declares_in_session}
+use Rattle.pure_session_laws.proofs.Declare.TidyDeclared.{pure_is_tidy}
+use Rattle.pure_session_laws.proofs.Declare.GoodLaws.{pure_is_good}
+use Rattle.pure_session_laws.proofs.Declare.PartLaws.{parts_grow, parts_good, parts_tidy, parts_in_session}
 use Rattle.pure_session_laws.specs.Loaded.{IsLoadedSession}
-use Rattle.pure_session_meaning.specs.Verdicts.{Verdict, IsTheoryAt, Begins, beginning_over}
+use Rattle.pure_session_meaning.specs.Verdicts.{Verdict, IsTheoryAt, Begins, AllClose, beginning_over}
 use Rattle.pure_session_meaning.specs.Statements.{IsRun}
 use Rattle.pure_session_meaning.specs.Steps.{command_label}
 use Rattle.pure_session_meaning.specs.Kept.{IsKept}
 use Rattle.pure_session_meaning.specs.Laws.{IsOrderly, RunsOrderly}
-use Rattle.pure_session_meaning.proofs.KeptLaws.{run-has}
+use Rattle.pure_session_meaning.proofs.KeptLaws.{begun-has, run-has}
 use Rattle.pure_session_meaning.proofs.OrderedLaws.{IsOrdered, merge_is_ordered}
 use Rattle.pure_session_meaning.proofs.TextLaws.{one_text, theory-well}
 
@@ -48,10 +48,14 @@ before-through l m n (inr (a, inl c)) (inr (b, inr d)) = let same = d.0 in inr (
 before-through l m n (inr (a, inr c)) (inr (b, inl d)) = let same = c.0 in inr (a ∙ b, inl (omega arith))
 before-through l m n (inr (a, inr c)) (inr (b, inr d)) = let first = c.1 in let second = d.1 in inr (a ∙ b, inr (c.0 ∙ d.0, omega arith))
 
-pub command-before : (index n : ℕ) → IsBefore (command_label index n) (command_label index (n + 1))
-command-before index n = inr (refl, inl (omega arith))
+-- Each part of a command comes before the next part, and before the next command.
+pub part-before : (label : Label) (n : ℕ) → IsBefore (part_label label n) (part_label label (n + 1))
+part-before label n = inr (refl, inr (refl, omega arith))
 
--- What a content of a session is before the command with the label.
+pub command-before : (index n part : ℕ) → IsBefore (part_label (command_label index n) part) (command_label index (n + 1))
+command-before index n part = inr (refl, inl (omega arith))
+
+-- What a content of a session is before the command or the part with the label.
 pub record HasOrder (texts : List (List ℕ)) (label : Label) (Q : Content) : Type 0 where
   pub orderly : IsOrderly texts Q
   pub labels : IsLabelAbove Q.declarations label
@@ -135,36 +139,54 @@ module _ (texts : List (List ℕ)) (theories : List Loaded) (session : IsLoadedS
           (λ Q k d n y o B e. k.labels y o B (subst (λ (c : Decl). IsIn c Q.declarations) e n)) (PromiseDecl x l A) m x l A refl;
     }
 
-  grown : (source : List ℕ) (label : Label) (Q : Content) (command : Command) (note : Note) (next : Content) → HasOrder texts label Q → Declares texts source label Q command note next → IsGrown label Q next
-  grown source label Q command note next h d = declares_grown texts source label Q command note next h.orderly.in_session h.orderly.good.sound.content (classes-above Q h.orderly.good.sound) h.labels d
+  -- Behind a part the content is so before the next one, and behind some parts, too.
+  pub part-orderly : (source : List ℕ) (label : Label) (place : ℕ) (Q : Content) (part : Part) (note : Note) (next : Content) → HasOrder texts (part_label label place) Q → DeclaresPart texts source (part_label label place) Q part note next
+      → HasOrder texts (part_label label (place + 1)) next
+  part-orderly source label place Q part note next h d =
+      let grown : IsGrown (part_label label place) Q next =
+      parts_grow texts source (part_label label place) Q part note next h.orderly.in_session h.orderly.good.sound.content (classes-above Q h.orderly.good.sound) h.labels d in
+      record {
+        orderly = record {
+          good = parts_good texts source (part_label label place) Q part note next h.orderly.in_session h.orderly.good h.labels d;
+          in_session = parts_in_session texts source (part_label label place) Q part note next h.orderly.in_session d;
+          tidy = parts_tidy texts source (part_label label place) Q part note next h.orderly.tidy d;
+        };
+        labels = grown.labels (part_label label (place + 1)) (part-before label place);
+      }
 
-  next-orderly : (source : List ℕ) (index n : ℕ) (Q : Content) (command : Command) (note : Note) (next : Content) → HasOrder texts (command_label index n) Q → Declares texts source (command_label index n) Q command note next
+  pub parts-orderly : (source : List ℕ) (label : Label) (parts : List Part) (place : ℕ) (Q : Content) (notes : List Note) (last : Content) → HasOrder texts (part_label label place) Q → AreParts texts source label place Q parts notes last
+      → HasOrder texts (part_label label (place + length notes)) last
+  parts-orderly source label [] place Q notes last h d =
+      let none : length notes ≡ 0 = ap length d.0 in
+      let here : place ≡ place + length notes = omega (arith, none) in
+      subst (λ (n : ℕ). HasOrder texts (part_label label n) last) here (subst (λ (R : Content). HasOrder texts (part_label label place) R) (sym d.1) h)
+  parts-orderly source label (part ∷ parts) place Q notes last h d =
+      let next = part-orderly source label place Q part d.0 d.1 h d.3 in
+      let longer : length notes ≡ length (d.0 ∷ d.2) = ap length d.5 in
+      let count : place + 1 + length d.2 ≡ place + length notes = omega (arith, longer) in
+      subst (λ (n : ℕ). HasOrder texts (part_label label n) last) count (parts-orderly source label parts (place + 1) d.1 d.2 last next d.4)
+
+  pub next-orderly : (source : List ℕ) (index n : ℕ) (Q : Content) (command : Command) (notes : List Note) (next : Content) → HasOrder texts (command_label index n) Q → Declares texts source (command_label index n) Q command notes next
       → HasOrder texts (command_label index (n + 1)) next
-  next-orderly source index n Q command note next h d = record {
-    orderly = record {
-      good = declares_good texts source (command_label index n) Q command note next h.orderly.in_session h.orderly.good h.labels d;
-      in_session = declares_in_session texts source (command_label index n) Q command note next h.orderly.in_session d;
-      tidy = declares_tidy texts source (command_label index n) Q command note next h.orderly.tidy d;
-    };
-    labels = (grown source (command_label index n) Q command note next h d).labels (command_label index (n + 1)) (command-before index n);
-  }
+  next-orderly source index n Q command notes next h d =
+      later-orderly (part_label (command_label index n) (0 + length notes)) (command_label index (n + 1)) next (command-before index n (0 + length notes)) (parts-orderly source (command_label index n) d.parts 0 Q notes next h d.are)
 
   order-kept : IsKept texts theories (HasOrder texts)
   order-kept = record {
     pure = pure-orderly;
     later = later-orderly;
     begins = λ index theory is_at parents closed first b h. first-orderly index theory is_at parents first b h;
-    declares = λ index notes now command left run note next d h. next-orderly run.theory.source index (length notes) now command note next h d;
+    declares = λ index notes now command left run more next d h. next-orderly run.theory.source index (length run.done) now command more next h d;
   }
 
-  -- Each content of a run is so.
-  pub run-ordered : (index : ℕ) (notes : List Note) (now : Content) (left : List Command) → IsRun texts theories index notes now left → HasOrder texts (command_label index (length notes)) now
-  run-ordered index notes now left run = run-has texts theories session (HasOrder texts) order-kept index notes now left run
+  -- The content with which a theory begins is so,
+  pub begun-ordered : (index : ℕ) (theory : Loaded) → IsTheoryAt theories index theory → (parents : List Verdict) → AllClose texts theories theory.parents parents → (first : Content) → Begins texts index theory parents first
+      → HasOrder texts (command_label index 0) first
+  begun-ordered index theory is_at parents closed first begins = begun-has texts theories session (HasOrder texts) order-kept index theory is_at parents closed first begins
 
-  -- and what its next command leaves has grown
-  pub run-grows : (index : ℕ) (notes : List Note) (now : Content) (command : Command) (left : List Command) (run : IsRun texts theories index notes now (command ∷ left)) (note : Note) (next : Content)
-      → Declares texts run.theory.source (command_label index (length notes)) now command note next → IsGrown (command_label index (length notes)) now next
-  run-grows index notes now command left run note next d = grown run.theory.source (command_label index (length notes)) now command note next (run-ordered index notes now (command ∷ left) run) d
+  -- and so is each content of a run.
+  pub run-ordered : (index : ℕ) (notes : List Note) (now : Content) (left : List Command) (run : IsRun texts theories index notes now left) → HasOrder texts (command_label index (length run.done)) now
+  run-ordered index notes now left run = run-has texts theories session (HasOrder texts) order-kept index notes now left run
 
 pub runs_orderly : RunsOrderly
 runs_orderly texts theories session index notes now left run = (run-ordered texts theories session index notes now left run).orderly

@@ -8,7 +8,7 @@ use Rattle.pure_logic.specs.Content.{TheoryId, Content, IsContent}
 use Rattle.pure_lookup.specs.Meaning.{pure_text}
 use Rattle.pure_graph.specs.Order.{Loaded}
 use Rattle.pure_session_laws.specs.Declare.Notes.{Note}
-use Rattle.pure_session_laws.specs.Declare.First.{AreDeclared}
+use Rattle.pure_session_laws.specs.Declare.Fold.{AreDeclared}
 use Rattle.pure_session_laws.specs.Owned.{IsLast, IsOwned}
 use Rattle.pure_session_laws.specs.Ended.{HasPlainName, AreEnded, IsNext, IsParent, IsGivenParents}
 use Rattle.pure_session_laws.specs.Kept.{NothingHasEnded, TheoryEnds}
@@ -47,7 +47,7 @@ last-of v ns ms P R h k = let same = sym h ∙ k in cc
 
 module _ (texts : List (List ℕ)) (theories : List Loaded) (session : IsLoadedSession texts theories) where
   closed-own : (index : ℕ) (notes : List Note) (P : Content) → Closes texts theories index (Ran notes P) → IsOwnOf texts theories index P
-  closed-own index notes P closes = run-own texts theories session index notes P [] (closes-run closes notes P refl)
+  closed-own index notes P closes = run-own texts theories index notes P [] (closes-run closes notes P refl)
 
   -- These are last contents of theories that have closed, up to a bound.
   pub record AreClosed (bound : ℕ) (ended : List Content) : Type 0 where
@@ -62,7 +62,7 @@ module _ (texts : List (List ℕ)) (theories : List Loaded) (session : IsLoadedS
       let same : ◌≡◌ {A = TheoryId} (record { name = w.name; index = j }) t = cc in
       (w.theory, w.is_at, subst (λ (u : TheoryId). HasText texts u.name w.theory.name) same w.text, ap (λ (u : TheoryId). u.index) (sym same))
 
-  by-name : (i j : ℕ) (a b : Loaded) → IsTheoryAt theories i a → IsTheoryAt theories j b → (m n : ℕ) → HasText texts m a.name → HasText texts n b.name → m ≡ n → i ≡ j
+  pub by-name : (i j : ℕ) (a b : Loaded) → IsTheoryAt theories i a → IsTheoryAt theories j b → (m n : ℕ) → HasText texts m a.name → HasText texts n b.name → m ≡ n → i ≡ j
   by-name i j a b h k m n s t same =
       let names : a.name ≡ b.name = one_text texts n a.name b.name (subst (λ (x : ℕ). HasText texts x a.name) same s) t in
       h.1 ∙ ap suc (place-by_name theories session.distinct h.0 k.0 a b h.2 k.2 names) ∙ sym k.1
@@ -124,6 +124,12 @@ module _ (texts : List (List ℕ)) (theories : List Loaded) (session : IsLoadedS
   higher-bound : (low high : ℕ) (ended : List Content) → low ≤ high → AreClosed low ended → AreClosed high ended
   higher-bound low high ended le h = record { are = h.are; closed = λ P m. (let w = h.closed P m in (w.0, w.1, omega (arith, w.2, le), w.3)) }
 
+  -- The name of a theory is plain.
+  pub plain-name : (index : ℕ) (theory : Loaded) → IsTheoryAt theories index theory → (name : ℕ) → HasText texts name theory.name → HasPlainName texts (record { name = name; index = index })
+  plain-name index theory is_at name text x has =
+      let same : x ≡ theory.name = one_text texts name x theory.name has text in
+      subst (λ (y : List ℕ). (¬ IsIn 46 y) × (y ≢ pure_text)) (sym same) (theory-well texts theories session index theory is_at).plain
+
   -- What a theory that begins is given.
   module _ (index : ℕ) (theory : Loaded) (is_at : IsTheoryAt theories index theory) (name : ℕ) (text : HasText texts name theory.name) (ended : List Content) (h : AreClosed is_at.0 ended) where
     is-next : IsNext ended (record { name = name; index = index })
@@ -133,11 +139,6 @@ module _ (texts : List (List ℕ)) (theories : List Loaded) (session : IsLoadedS
           omega (arith, a.3, w.2, is_at.1),
           λ same. (let one : w.0 ≡ index = by-name w.0 index a.0 theory a.1 is_at t.name name a.2 text same in absurd (omega (arith, one, w.2, is_at.1))),
         )
-
-    is-plain : HasPlainName texts (record { name = name; index = index })
-    is-plain x has =
-        let same : x ≡ theory.name = one_text texts name x theory.name has text in
-        subst (λ (y : List ℕ). (¬ IsIn 46 y) × (y ≢ pure_text)) (sym same) (theory-well texts theories session index theory is_at).plain
 
     some-over : (contents : List Content) → ¬ (beginning_over contents ≡ [])
     some-over [] e = absurd (cc)
@@ -154,7 +155,7 @@ module _ (texts : List (List ℕ)) (theories : List Loaded) (session : IsLoadedS
     each-parent (Q ∷ Qs) m = each_imply (λ P. IsIn P ended) (IsParent ended) (Q ∷ Qs) is-parent m
 
     pub given-parents : (contents : List Content) → Each (λ P. IsIn P ended) contents → IsGivenParents texts ended (record { name = name; index = index }) (beginning_over contents)
-    given-parents contents m = record { next = is-next; plain = is-plain; some = some-over contents; each = each-parent contents m }
+    given-parents contents m = record { next = is-next; plain = plain-name index theory is_at name text; some = some-over contents; each = each-parent contents m }
 
   module _ (nothing_ended : NothingHasEnded) (ends : TheoryEnds) where
     -- the last contents of theories, and of all that are before them

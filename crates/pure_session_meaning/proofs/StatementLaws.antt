@@ -1,4 +1,4 @@
--- The notes of a session, and the lemmas that are bound among them.
+-- The notes of a session, and the lemmas and haves that are bound among them.
 use Rattle.std.proofs.Common.{◌≡◌, ◌<◌, ℕ, zero, suc, List, [], ◌∷◌, ◌++◌, length, append_assoc, length-append, refl, sym, ap, ◌∙◌, subst, inl, inr, arith}
 use Rattle.std.proofs.lemmas.Option.{slice_get_within}
 use Rattle.std.specs.Prelude.{Some, slice_get}
@@ -10,11 +10,11 @@ use Rattle.pure_graph.specs.Order.{Loaded}
 use Rattle.pure_session_laws.specs.Declare.Notes.{Note, Fork, Forked}
 use Rattle.pure_session_laws.specs.Loaded.{IsLoadedSession}
 use Rattle.pure_session_meaning.specs.Verdicts.{Verdict, Barred, Ran, Closes}
-use Rattle.pure_session_meaning.specs.Statements.{notes_of, forks_of, AreStatements, IsRun, IsFork}
+use Rattle.pure_session_meaning.specs.Statements.{notes_of, forks_of, AreStatements, IsFork}
 use Rattle.pure_session_meaning.specs.Laws.{IsSomeFork, StatementsBindForks, StatementsOnce, ForkOnce}
 use Rattle.pure_session_meaning.proofs.OnceLaws.{closes-once}
-use Rattle.pure_session_meaning.proofs.FrontLaws.{run-front, run-closed, runs-compare}
-use Rattle.pure_session_meaning.proofs.NoteLaws.{forks-append, closes-run, fork-place, fork-in}
+use Rattle.pure_session_meaning.proofs.FrontLaws.{run-closed, runs-compare}
+use Rattle.pure_session_meaning.proofs.NoteLaws.{forks-append, closes-run, forked-in, fork-in, run-fork}
 use Rattle.pure_session_meaning.proofs.ConflictLaws.{AreCuts, at_one, further, before, cuts}
 
 fork-longer : (ns : List Note) (f : Fork) (ms : List Note) (n : ℕ) → length (forks_of (ns ++ Forked f ∷ ms)) ≡ n → length (forks_of ns) ≡ n → ⊥
@@ -26,18 +26,18 @@ same-forked : (f g : Fork) → Forked f ≡ Forked g → f ≡ g
 same-forked f g e = cc
 
 -- In one list the lemma after so many others is one.
-one-fork : (ns ms rest : List Note) (f g : Fork) (n : ℕ) → length (forks_of ns) ≡ n → length (forks_of ms) ≡ n → ms ++ Forked g ∷ [] ≡ (ns ++ Forked f ∷ []) ++ rest → f ≡ g
-one-fork ns ms rest f g n h k e = by (cuts ns (Forked f) rest ms (Forked g) [] (sym (e ∙ append_assoc ns (Forked f ∷ []) rest)))
+one-fork : (ns ms back more rest : List Note) (f g : Fork) (n : ℕ) → length (forks_of ns) ≡ n → length (forks_of ms) ≡ n → ms ++ Forked g ∷ more ≡ (ns ++ Forked f ∷ back) ++ rest → f ≡ g
+one-fork ns ms back more rest f g n h k e = by (cuts ns (Forked f) (back ++ rest) ms (Forked g) more (sym (e ∙ append_assoc ns (Forked f ∷ back) rest)))
   where
     by : AreCuts ns (Forked f) ms (Forked g) → f ≡ g
     by (at_one a b) = same-forked f g b
-    by (further more is) = absurd (fork-longer ns f more n (ap (λ (x : List Note). length (forks_of x)) (sym is) ∙ k) h)
-    by (before more is) = absurd (fork-longer ms g more n (ap (λ (x : List Note). length (forks_of x)) (sym is) ∙ h) k)
+    by (further between is) = absurd (fork-longer ns f between n (ap (λ (x : List Note). length (forks_of x)) (sym is) ∙ k) h)
+    by (before between is) = absurd (fork-longer ms g between n (ap (λ (x : List Note). length (forks_of x)) (sym is) ∙ h) k)
 
 pub fork_once : ForkOnce
-fork_once texts theories session index others f g h k = elim (runs-compare texts theories session index (h.notes ++ Forked f ∷ []) (k.notes ++ Forked g ∷ []) h.now k.now h.left k.left h.run k.run) [
-  | inl w ↦ one-fork h.notes k.notes w.0 f g others h.count k.count w.1
-  | inr w ↦ sym (one-fork k.notes h.notes w.0 g f others k.count h.count w.1)
+fork_once texts theories session index others f g h k = elim (runs-compare texts theories session index (h.notes ++ Forked f ∷ h.more) (k.notes ++ Forked g ∷ k.more) h.now k.now h.left k.left h.run k.run) [
+  | inl w ↦ one-fork h.notes k.notes h.more k.more w.0 f g others h.count k.count w.1
+  | inr w ↦ sym (one-fork k.notes h.notes k.more h.more w.0 g f others k.count h.count w.1)
 ]
 
 same-verdicts : (vs ws : List Verdict) → ((p : ℕ) (v w : Verdict) → slice_get vs p ≡ Some v → slice_get ws p ≡ Some w → v ≡ w) → length vs ≡ length ws → vs ≡ ws
@@ -75,10 +75,7 @@ module _ (texts : List (List ℕ)) (theories : List Loaded) (session : IsLoadedS
   bound-there : (index : ℕ) (v : Verdict) (f : Fork) → Closes texts theories index v → IsIn f (forks_of (notes_of v)) → IsSomeFork texts theories f
   bound-there index (Barred row) f closes m = absurd m
   bound-there index (Ran notes last) f closes m =
-      let w = fork-place notes f m in
-      let run = closes-run closes notes last refl in
-      let front = run-front texts theories index (w.0 ++ Forked f ∷ []) w.1 last [] (subst (λ (ns : List Note). IsRun texts theories index ns last []) w.2 run) in
-      (index, length (forks_of w.0), record { notes = w.0; now = front.0; left = front.1; run = front.2; count = refl })
+      run-fork texts theories index notes last [] (closes-run closes notes last refl) f (forked-in notes f m)
 
   some-verdict : (vs : List Verdict) (p : ℕ) → p < length vs → (v : Verdict) × (slice_get vs p ≡ Some v)
   some-verdict [] p h = absurd (omega (arith, h))
@@ -86,10 +83,10 @@ module _ (texts : List (List ℕ)) (theories : List Loaded) (session : IsLoadedS
   some-verdict (v ∷ vs) (suc p) h = some-verdict vs p (omega (arith, h))
 
   -- It is among the notes of the theory that binds it.
-  bound-at : (notes : List Note) (s : AreStatements texts theories notes) (f : Fork) (place : ℕ) (v : Verdict) (all : List Note) (last : Content) (ns rest : List Note) → slice_get s.verdicts place ≡ Some v → v ≡ Ran all last
-      → all ≡ (ns ++ Forked f ∷ []) ++ rest → IsIn f (forks_of notes)
-  bound-at notes s f place v all last ns rest held is split =
-      let there : IsIn f (forks_of all) = subst (λ (ms : List Note). IsIn f (forks_of ms)) (sym split) (fork-in f ns rest) in
+  bound-at : (notes : List Note) (s : AreStatements texts theories notes) (f : Fork) (place : ℕ) (v : Verdict) (all : List Note) (last : Content) (ns more rest : List Note) → slice_get s.verdicts place ≡ Some v → v ≡ Ran all last
+      → all ≡ (ns ++ Forked f ∷ more) ++ rest → IsIn f (forks_of notes)
+  bound-at notes s f place v all last ns more rest held is split =
+      let there : IsIn f (forks_of all) = subst (λ (ms : List Note). IsIn f (forks_of ms)) (sym (split ∙ append_assoc ns (Forked f ∷ more) rest)) (fork-in f ns (more ++ rest)) in
       let here : IsIn f (forks_of (notes_of v)) = subst (λ (x : Verdict). IsIn f (forks_of (notes_of x))) (sym is) there in
       subst (λ (ms : List Note). IsIn f (forks_of ms)) (sym s.notes_are) (of-verdict s.verdicts f place v held here)
 
@@ -99,8 +96,8 @@ module _ (texts : List (List ℕ)) (theories : List Loaded) (session : IsLoadedS
       let within : place < length theories = slice_get_within theories place is.run.theory is.run.is_at.2 in
       let v = some-verdict s.verdicts place (omega (arith, within, s.all)) in
       let closes : Closes texts theories index v.0 = subst (λ (i : ℕ). Closes texts theories i v.0) (sym is.run.is_at.1) (s.are place v.0 v.1) in
-      let w = run-closed texts theories session index (is.notes ++ Forked f ∷ []) is.now is.left is.run closes in
-      bound-at notes s f place v.0 w.0 w.1 is.notes w.3 v.1 w.2 w.4
+      let w = run-closed texts theories session index (is.notes ++ Forked f ∷ is.more) is.now is.left is.run closes in
+      bound-at notes s f place v.0 w.0 w.1 is.notes is.more w.3 v.1 w.2 w.4
 
 pub statements_bind_forks : StatementsBindForks
 statements_bind_forks texts theories session notes s f = (

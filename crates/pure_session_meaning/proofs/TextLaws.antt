@@ -1,5 +1,5 @@
 -- Texts and theories of a session.
-use Rattle.std.proofs.Common.{◌≡◌, ℕ, List, [], ◌∷◌, sym, ◌∙◌}
+use Rattle.std.proofs.Common.{◌≡◌, ℕ, List, sym, ◌∙◌}
 use Rattle.pure_text.proofs.ListLaws.{each_at}
 use Rattle.pure_typ.specs.NameTexts.{HasText}
 use Rattle.pure_graph.specs.Order.{Loaded}

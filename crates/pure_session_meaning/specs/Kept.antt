@@ -8,7 +8,7 @@ use Rattle.pure_logic.specs.PureContent.{pure_content}
 use Rattle.pure_session_laws.specs.Theory.Refusals.{IsBefore}
 use Rattle.pure_graph.specs.Order.{Loaded}
 use Rattle.pure_session_laws.specs.Declare.Notes.{Note}
-use Rattle.pure_session_laws.specs.Declare.First.{Declares}
+use Rattle.pure_session_laws.specs.Declare.Fold.{Declares}
 use Rattle.pure_session_meaning.specs.Verdicts.{Verdict, IsTheoryAt, Begins, AllClose, beginning_over}
 use Rattle.pure_session_meaning.specs.Statements.{IsRun}
 use Rattle.pure_session_meaning.specs.Steps.{command_label}
@@ -19,5 +19,5 @@ pub record IsKept (texts : List (List ℕ)) (theories : List Loaded) (Has : Labe
   pub later : (label other : Label) (Q : Content) → IsBefore label other → Has label Q → Has other Q
   pub begins : (index : ℕ) (theory : Loaded) → IsTheoryAt theories index theory → (parents : List Verdict) → AllClose texts theories theory.parents parents → (first : Content) (begins : Begins texts index theory parents first)
       → Each (Has (command_label index 0)) (beginning_over begins.contents) → Has (command_label index 0) first
-  pub declares : (index : ℕ) (notes : List Note) (now : Content) (command : Command) (left : List Command) (run : IsRun texts theories index notes now (command ∷ left)) (note : Note) (next : Content)
-      → Declares texts run.theory.source (command_label index (length notes)) now command note next → Has (command_label index (length notes)) now → Has (command_label index (length notes + 1)) next
+  pub declares : (index : ℕ) (notes : List Note) (now : Content) (command : Command) (left : List Command) (run : IsRun texts theories index notes now (command ∷ left)) (more : List Note) (next : Content)
+      → Declares texts run.theory.source (command_label index (length run.done)) now command more next → Has (command_label index (length run.done)) now → Has (command_label index (length run.done + 1)) next

@@ -9,3 +9,4 @@ pub mod Kept
 pub mod Laws
 pub mod Given
 pub mod Closing
+pub mod First

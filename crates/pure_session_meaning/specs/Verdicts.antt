@@ -14,7 +14,7 @@ use Rattle.pure_statements.specs.Rows.{colon}
 use Rattle.pure_statements.specs.ReasonText.{reason_text}
 use Rattle.pure_statements.specs.declared.reason.Reason.TheVariants.{NotCoregular}
 use Rattle.pure_session_laws.specs.Declare.Notes.{Note}
-use Rattle.pure_session_laws.specs.Declare.First.{AreDeclared}
+use Rattle.pure_session_laws.specs.Declare.Fold.{AreDeclared}
 
 -- what becomes of a theory: the row by which it is refused when it begins, or what its commands leave and its last content
 pub data Verdict : Type 0 where

@@ -1,5 +1,6 @@
 //! What the definitions mean: laws, each carried by the contract of a function that does nothing.
-ghost use Rattle.pure_session_meaning.specs.Laws.{ClosesOnce, ForkOnce, ForksProvable, ForksStand, LabelsAscend, PromisesAreForks, RunsOrderly, StatementsBindForks, StatementsOnce};
+ghost use Rattle.pure_session_meaning.specs.Laws.{ClosesOnce, ForkOnce, ForksOfOneCommand, ForksProvable, ForksStand, LabelsAscend, PromisesAreForks, PromisesBeforeForks, RunsOrderly, StatementsBindForks, StatementsOnce};
+ghost use Rattle.pure_session_meaning.specs.First.{ClosesAsFirst, ForksAsFirst, StatementsAsFirst};
 ghost use Rattle.pure_session_meaning.specs.Closing.{ContentsMergeOrNot, TheoryCloses};
 ghost use Rattle.pure_session_meaning.specs.Given.{RunsClose, RunsGive, TheoriesMayBegin};
 ghost use Rattle.pure_session_meaning.specs.Steps.{RunBegins, RunCloses, RunGoesOn};
@@ -9,7 +10,7 @@ pub fn run_begins()
     ensures { RunBegins }
 {}
 
-/// A run goes on with what its next command declares.
+/// A run goes on with all that its next command declares.
 pub fn run_goes_on()
     ensures { RunGoesOn }
 {}
@@ -24,28 +25,38 @@ pub fn runs_orderly()
     ensures { RunsOrderly }
 {}
 
-/// A proof can be run of each lemma that is bound.
+/// A proof can be run of each lemma and have that is bound.
 pub fn forks_provable()
     ensures { ForksProvable }
 {}
 
-/// Each lemma that is bound stands over a content of its theory's run, with the label of its command, behind all promises of
-/// that content.
+/// Each lemma and have that is bound stands over the content that the parts of its command before it leave, with the label of
+/// its command and of its part, behind all promises of that content, which is a good one, in the session, with tidy facts alone.
 pub fn forks_stand()
     ensures { ForksStand }
 {}
 
-/// Each promise of a content is that of a lemma of the session, which was bound before.
+/// Each promise of a content is that of a lemma or have of the session, which was bound before.
 pub fn promises_are_forks()
     ensures { PromisesAreForks }
 {}
 
-/// The lemmas that a session's notes bind are just those that are bound somewhere in it.
+/// So is each promise of a content over which a lemma or have stands.
+pub fn promises_before_forks()
+    ensures { PromisesBeforeForks }
+{}
+
+/// Those that are of one lemma are of one command.
+pub fn forks_of_one_command()
+    ensures { ForksOfOneCommand }
+{}
+
+/// The lemmas and haves that a session's notes bind are just those that are bound somewhere in it.
 pub fn statements_bind_forks()
     ensures { StatementsBindForks }
 {}
 
-/// The labels of the session's lemmas ascend.
+/// The labels of the session's lemmas and haves ascend.
 pub fn labels_ascend()
     ensures { LabelsAscend }
 {}
@@ -60,7 +71,7 @@ pub fn statements_once()
     ensures { StatementsOnce }
 {}
 
-/// A theory's lemma after so many others is one.
+/// A theory's lemma or have after so many others is one.
 pub fn fork_once()
     ensures { ForkOnce }
 {}
@@ -88,4 +99,19 @@ pub fn contents_merge_or_not()
 /// A theory whose parents have closed closes too.
 pub fn theory_closes()
     ensures { TheoryCloses }
+{}
+
+/// Of theories without haves the same becomes as before there were any.
+pub fn closes_as_first()
+    ensures { ClosesAsFirst }
+{}
+
+/// So they leave the same notes.
+pub fn statements_as_first()
+    ensures { StatementsAsFirst }
+{}
+
+/// Each lemma that they bind is of part 0 of its command, and its proof is in no lemma but itself.
+pub fn forks_as_first()
+    ensures { ForksAsFirst }
 {}

@@ -1,11 +1,12 @@
 -- From the lemma's course to what is said of the session's lemma.
 use Rattle.std.proofs.Common.{◌≡◌, ℕ, Bool, List, [], refl, sym, ap, subst, ◌∙◌, Option, Some, None}
-use Rattle.std.specs.Prelude.{get_or, map, Result, Ok, Err, IfOk}
+use Rattle.std.specs.Prelude.{map, Result, Ok, Err, IfOk}
 use Rattle.std.specs.List.{flat_map}
 use Rattle.pure_graph.specs.Order.{Loaded}
-use Rattle.pure_places.specs.Parts.{Part}
-use Rattle.pure_places.specs.Seen.{ArePlaces, seen_part}
-use Rattle.pure_places.specs.declared.parts.Part as code
+use Rattle.pure_definitions.specs.Names.{Label}
+use Rattle.pure_places.specs.Parts.{Part, CommandParts, part_at}
+use Rattle.pure_places.specs.Seen.{ArePlaces, seen_command}
+use Rattle.pure_places.specs.declared.parts.CommandParts as code
 use Rattle.pure_row_places.specs.Lines.{Theory}
 use Rattle.pure_row_places.specs.Scans.{IsScanOf}
 use Rattle.pure_theory_run.specs.Declare.Notes.{Fork}
@@ -18,7 +19,7 @@ use Rattle.pure_theory_run.specs.SessionMeaning.Verdicts.{IsTheoryAt}
 use Rattle.pure_show.specs.declared.named.Shown.{Shown}
 use Rattle.pure_show.specs.Laws.{ShownOnce}
 use Rattle.pure_show.specs.Lines.{course_text, is_clean, limit, room_left}
-use Rattle.pure_show.specs.Answers.{IsAnswer, IsCourseText, IsShown, StandsIn, command_part, place_of}
+use Rattle.pure_show.specs.Answers.{IsAnswer, IsCourseText, IsShown, StandsIn, no_command, labelled_part, place_of}
 
 -- what is said of the lemma with a name is said of the session
 pub shown-so : (texts : List (List ℕ)) (theories : List Loaded) (values : List Outline) (forks lent : List Fork) → AreSaid texts theories values forks → lent ≡ forks → (names : List (List ℕ)) → names ≡ texts → (name : List ℕ) (found : Option Fork)
@@ -35,7 +36,7 @@ shown-so texts theories values forks lent said same names named name found at te
 
 -- the lemma stands in the scanned theory of its label
 pub stands-in : (theories : List Loaded) (f : Fork) (theory : Loaded) → IsTheoryAt theories f.label.theory theory → (t : Theory) → IsScanOf theory.name theory.source t → (source : List ℕ) → source ≡ t.source → (part : Part ℕ)
-    → part ≡ command_part t.places.commands f.label.command → StandsIn theories f source part
+    → part ≡ labelled_part t.places.commands f.label → StandsIn theories f source part
 stands-in theories f theory at t scan source is part part_is =
     let same : source ≡ theory.source = is ∙ scan.source_is in
     record { theory = theory; is_at = at; source_is = same; places = t.places; are = subst (λ (s : List ℕ). ArePlaces s t.places) (sym same) scan.places; part_is = part_is }
@@ -59,9 +60,10 @@ pub some-shown : {E : Type 0} (texts : List (List ℕ)) (theories : List Loaded)
 some-shown texts theories values forks lent said same names named name f at (Ok s) is = shown-so texts theories values forks lent said same names named name (Some f) at s.text s.clean is
 some-shown texts theories values forks lent said same names named name f at (Err fault) is = tt
 
--- the part that was found is the command's
-pub part-is : (lent parts : List code.Part) → lent ≡ parts → (n number : ℕ) → n ≡ number → (none : Part ℕ) → none ≡ record { name = 0; steps = [] } → (found : Part ℕ) → found ≡ get_or (map seen_part lent) n none → found ≡ command_part (map seen_part parts) number
-part-is lent parts same n number number_is none empty found is = is ∙ (λ i. get_or (map seen_part (same i)) (number_is i) (empty i))
+-- the part that was found is that of the label
+pub part-is : (lent commands : List code.CommandParts) → lent ≡ commands → (label : Label) (n k : ℕ) → n ≡ label.command → k ≡ label.part → (none : CommandParts ℕ) → none ≡ no_command → (found : Part ℕ) → found ≡ part_at (map seen_command lent) n k none
+    → found ≡ labelled_part (map seen_command commands) label
+part-is lent commands same label n k command_is part_is none empty found is = is ∙ (λ i. part_at (map seen_command (same i)) (command_is i) (part_is i) (empty i))
 
 -- a course with places that are these
 pub placed-so : {E : Type 0} (texts : List (List ℕ)) (f : Fork) (name lent source : List ℕ) → lent ≡ source → (found part : Part ℕ) → found ≡ part → (r : Result Shown E) → IfOk r (λ s. IsCourseText texts f name (place_of lent found) s.text s.clean)
@@ -70,12 +72,12 @@ placed-so texts f name lent source same found part is r h = subst (λ (x : List 
 
 -- the lemma in the scanned theory of its label
 pub lemma-shown : {E : Type 0} (texts : List (List ℕ)) (theories : List Loaded) (f : Fork) (name : List ℕ) (number : ℕ) → number ≡ f.label.theory → (theory : Loaded) → IsTheoryAt theories number theory → (t : Theory) → IsScanOf theory.name theory.source t
-    → (names : List (List ℕ)) → names ≡ texts → (r : Result Shown E) → IfOk r (λ s. IsCourseText names f name (place_of t.source (command_part t.places.commands f.label.command)) s.text s.clean)
+    → (names : List (List ℕ)) → names ≡ texts → (r : Result Shown E) → IfOk r (λ s. IsCourseText names f name (place_of t.source (labelled_part t.places.commands f.label)) s.text s.clean)
     → IfOk r (λ s. IsShown texts theories name (Some f) s.text s.clean)
 lemma-shown texts theories f name number is theory at t scan names named (Ok s) h = (
   t.source,
-  command_part t.places.commands f.label.command,
-  stands-in theories f theory (subst (λ (n : ℕ). IsTheoryAt theories n theory) is at) t scan t.source refl (command_part t.places.commands f.label.command) refl,
-  subst (λ (ns : List (List ℕ)). IsCourseText ns f name (place_of t.source (command_part t.places.commands f.label.command)) s.text s.clean) named h,
+  labelled_part t.places.commands f.label,
+  stands-in theories f theory (subst (λ (n : ℕ). IsTheoryAt theories n theory) is at) t scan t.source refl (labelled_part t.places.commands f.label) refl,
+  subst (λ (ns : List (List ℕ)). IsCourseText ns f name (place_of t.source (labelled_part t.places.commands f.label)) s.text s.clean) named h,
 )
 lemma-shown texts theories f name number is theory at t scan names named (Err fault) h = tt

@@ -1,7 +1,8 @@
 -- What is shown of the lemma of a session that has some name.
-use Rattle.std.specs.Prelude.{◌≡◌, ℕ, Bool, false, List, [], ◌∷◌, ◌++◌, Option, Some, None, codes, get_or}
+use Rattle.std.specs.Prelude.{◌≡◌, ℕ, Bool, false, List, [], ◌∷◌, ◌++◌, Option, Some, None, codes}
 use Rattle.pure_graph.specs.Order.{Loaded}
-use Rattle.pure_places.specs.Parts.{Part, Parts}
+use Rattle.pure_definitions.specs.Names.{Label}
+use Rattle.pure_places.specs.Parts.{Part, CommandParts, Parts, part_at}
 use Rattle.pure_places.specs.Seen.{ArePlaces}
 use Rattle.pure_resolve.specs.GoalSteps.State.{State}
 use Rattle.pure_row_places.specs.Lines.{place_text}
@@ -14,18 +15,21 @@ use Rattle.pure_theory_run.specs.SessionMeaning.Statements.{forks_of, AreStateme
 use Rattle.pure_theory_run.specs.SessionMeaning.Verdicts.{IsTheoryAt}
 use Rattle.pure_show.specs.Lines.{limit, course_text, room_left, is_clean}
 
--- the command with this number, counted from 0, among those of a theory; a theory has a part for each of its commands
-abbrev pub command_part : List (Part ℕ) → (number : ℕ) → Part ℕ
-command_part parts number = get_or parts number (record { name = 0; steps = [] })
+abbrev pub no_command : CommandParts ℕ
+no_command = record { haves = []; own = record { name = 0; steps = [] } }
 
--- The lemma's command is this part of this source: the label tells its theory and its number there.
+-- the lemma or have with this label among the commands of its theory, which has parts for each
+abbrev pub labelled_part : List (CommandParts ℕ) → Label → Part ℕ
+labelled_part commands label = part_at commands label.command label.part no_command
+
+-- The lemma or have is this part of this source: the label tells its theory, the command there, and the part of it.
 pub record StandsIn (theories : List Loaded) (f : Fork) (source : List ℕ) (part : Part ℕ) : Type 0 where
   pub theory : Loaded
   pub is_at : IsTheoryAt theories f.label.theory theory
   pub source_is : source ≡ theory.source
   pub places : Parts ℕ
   pub are : ArePlaces source places
-  pub part_is : part ≡ command_part places.commands f.label.command
+  pub part_is : part ≡ labelled_part places.commands f.label
 
 -- the line and the column of the step with this number
 abbrev pub place_of : (source : List ℕ) → Part ℕ → (number : ℕ) → List ℕ

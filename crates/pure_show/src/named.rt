@@ -1,7 +1,7 @@
 //! The lemma of a session that has some name, shown.
-ghost use Rattle.std.specs.Prelude.{◌≡◌, ◌<◌, [], IfOk, None, Some, get_or, map};
+ghost use Rattle.std.specs.Prelude.{◌≡◌, ◌<◌, [], IfOk, None, Some};
 ghost use Rattle.pure_graph.specs.Order as order;
-ghost use Rattle.pure_places.specs.Seen.{seen_part};
+ghost use Rattle.pure_places.specs.Seen.{seen_command};
 ghost use Rattle.pure_row_places.specs.Scans.{seen_scan};
 ghost use Rattle.pure_theory_run.specs.Method.Outcome.{IsProvable};
 ghost use Rattle.pure_theory_run.specs.SessionLaws.Loaded.{IsLoadedSession};
@@ -9,7 +9,7 @@ ghost use Rattle.pure_theory_run.specs.SessionMeaning.Verdicts.{IsTheoryAt};
 ghost use Rattle.pure_show.specs.Answers as spec;
 
 use crate::course::{Stand, shown_course};
-use pure_places::Part;
+use pure_places::{CommandParts, Part, part_at};
 use pure_row_places::{Scan, scanned};
 use pure_text::Text;
 use pure_theory_run::declare::Duty;
@@ -35,15 +35,17 @@ fn no_lemma(alloc: Global) -> Result<Shown, AllocError>
     })
 }
 
-/// The part with this number, or another where there is none.
-fn part_at<'p>(parts: &'p [Part], number: u32, other: &'p Part) -> &'p Part
-    ensures { seen_part result.now ≡ get_or (map seen_part parts.entry.now) number (seen_part other.entry.now) }
+/// A command without places.
+fn no_command(alloc: Global) -> CommandParts
+    ensures { seen_command result ≡ spec.no_command }
 {
-    let place = number as usize;
-    if place < parts.len() {
-        return &parts[place];
+    CommandParts {
+        haves: Vec::new(alloc),
+        own: Part {
+            name: 0,
+            steps: Vec::new(alloc),
+        },
     }
-    other
 }
 
 /// The number of the lemma's theory.
@@ -60,6 +62,13 @@ fn command_number(duty: &Duty) -> u32
     duty.label.command
 }
 
+/// The number of the lemma or have among the parts of its command.
+fn part_number(duty: &Duty) -> u32
+    ensures { result ≡ duty.now.label.part }
+{
+    duty.label.part
+}
+
 /// The course of the lemma's proof, with the places of its steps in the scanned theory.
 fn shown_in(
     alloc: Global,
@@ -67,16 +76,16 @@ fn shown_in(
     duty: &Duty,
     name: &[u8],
     scan: &Scan,
-    none: &Part,
+    none: &CommandParts,
 ) -> Result<Shown, AllocError>
     requires provable { IsProvable names.now duty.now }
-    requires none { seen_part none.now ≡ record { name = 0; steps = [] } }
-    ensures { IfOk result (λ s. spec.IsCourseText names.now duty.now name.now (spec.place_of (seen_scan scan.now).source (spec.command_part (seen_scan scan.now).places.commands duty.now.label.command)) s.text s.clean) }
+    requires none { seen_command none.now ≡ spec.no_command }
+    ensures { IfOk result (λ s. spec.IsCourseText names.now duty.now name.now (spec.place_of (seen_scan scan.now).source (spec.labelled_part (seen_scan scan.now).places.commands duty.now.label)) s.text s.clean) }
 {
-    let parts = scan.places.commands.as_slice();
+    let commands = scan.places.commands.as_slice();
     let stand = Stand {
         source: scan.source.bytes(),
-        part: part_at(parts, command_number(duty), none),
+        part: part_at(commands, command_number(duty), part_number(duty), none),
     };
     shown_course(alloc, names, duty, name, &stand)
 }
@@ -94,10 +103,7 @@ fn shown_lemma(
 {
     let theory = checker.theory(theory_number(duty));
     let scan = scanned(alloc, &theory.name, &theory.source)?;
-    let none = Part {
-        name: 0,
-        steps: Vec::new(alloc),
-    };
+    let none = no_command(alloc);
     shown_in(alloc, checker.names(), duty, name, &scan, &none)
 }
 

@@ -32,6 +32,10 @@ impl Subject for Theories {
                 Some(count) => many_outcome(alloc, count),
                 None => Outcome::Unreadable,
             },
+            (b"haves", 2) => match row.number(1) {
+                Some(count) => haves_outcome(alloc, count),
+                None => Outcome::Unreadable,
+            },
             _ => Outcome::Unreadable,
         }
     }
@@ -210,6 +214,37 @@ fn many_outcome(alloc: Global, count: u32) -> Outcome {
     let mut source = Vec::new(alloc);
     let mut tree = Vec::new(alloc);
     match say_classes(alloc, &mut source, &mut tree, count) {
+        Ok(()) => outcome_of(alloc, &source, &tree),
+        Err(_) => Outcome::Memory,
+    }
+}
+
+/// Writes a lemma of so many haves, and its tree.
+fn say_lemma(
+    alloc: Global,
+    source: &mut Vec<u8>,
+    tree: &mut Vec<u8>,
+    count: u32,
+) -> Result<(), AllocError> {
+    say(source, "version 2 theory A begin lemma k: \"P\"")?;
+    say(tree, "version 2 A: Pure; lemma k P")?;
+    for number in 0..count {
+        say(source, " have h")?;
+        say_number(alloc, source, number)?;
+        say(source, ": \"Q\" defer done")?;
+        say(tree, " [have h")?;
+        say_number(alloc, tree, number)?;
+        say(tree, " Q defer done]")?;
+    }
+    say(source, " done end")?;
+    say(tree, " done;")
+}
+
+/// What comes of a row of so many haves: a lemma of them has them all.
+fn haves_outcome(alloc: Global, count: u32) -> Outcome {
+    let mut source = Vec::new(alloc);
+    let mut tree = Vec::new(alloc);
+    match say_lemma(alloc, &mut source, &mut tree, count) {
         Ok(()) => outcome_of(alloc, &source, &tree),
         Err(_) => Outcome::Memory,
     }

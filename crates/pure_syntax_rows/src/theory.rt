@@ -1,6 +1,6 @@
 //! Trees of theories, written down.
 use crate::say::{say, say_number};
-use pure_script::{Command, Span, Step, TextList, TheoryText};
+use pure_script::{Command, Have, Span, Step, TextList, TheoryText};
 use pure_text::Text;
 use std::alloc::{AllocError, Global};
 
@@ -17,6 +17,17 @@ fn say_span(shown: &mut Vec<u8>, source: &[u8], span: Span) -> Result<(), AllocE
         Some(bytes) => shown.extend_from_slice(bytes),
         None => say(shown, "out of range"),
     }
+}
+
+/// Writes a name, and the bytes of a range of the source.
+fn say_named(
+    shown: &mut Vec<u8>,
+    source: &[u8],
+    name: &Text,
+    span: Span,
+) -> Result<(), AllocError> {
+    say_text(shown, name)?;
+    say_span(shown, source, span)
 }
 
 /// Writes each text behind a blank.
@@ -77,6 +88,22 @@ fn say_script(alloc: Global, shown: &mut Vec<u8>, script: &[Step]) -> Result<(),
     Ok(())
 }
 
+/// Writes each have in brackets.
+fn say_haves(
+    alloc: Global,
+    shown: &mut Vec<u8>,
+    source: &[u8],
+    haves: &[Have],
+) -> Result<(), AllocError> {
+    for have in haves {
+        say(shown, " [have")?;
+        say_named(shown, source, &have.name, have.prop)?;
+        say_script(alloc, shown, &have.script)?;
+        say(shown, "]")?;
+    }
+    Ok(())
+}
+
 /// Writes the classes of each sort in brackets.
 fn say_sorts(shown: &mut Vec<u8>, sorts: &[Vec<Text>]) -> Result<(), AllocError> {
     for sort in sorts {
@@ -129,30 +156,33 @@ fn say_parts(
             say_sorts(shown, doms)?;
             say_text(shown, class)
         }
-        Command::Const { name, typ } => {
-            say_text(shown, name)?;
-            say_span(shown, source, *typ)
-        }
-        Command::Axiom { name, prop } => {
-            say_text(shown, name)?;
-            say_span(shown, source, *prop)
-        }
+        Command::Const { name, typ } => say_named(shown, source, name, *typ),
+        Command::Axiom { name, prop } => say_named(shown, source, name, *prop),
         Command::Definition { name, typ, prop } => {
-            say_text(shown, name)?;
-            say_span(shown, source, *typ)?;
+            say_named(shown, source, name, *typ)?;
             say_span(shown, source, *prop)
         }
         Command::Lemma {
             name,
             prop,
+            haves,
             script,
-            ..
         } => {
-            say_text(shown, name)?;
-            say_span(shown, source, *prop)?;
+            say_named(shown, source, name, *prop)?;
+            say_haves(alloc, shown, source, haves)?;
             say_script(alloc, shown, script)
         }
     }
+}
+
+/// Writes the version of a theory, if it isn't 1.
+fn say_version(alloc: Global, shown: &mut Vec<u8>, version: u32) -> Result<(), AllocError> {
+    if version == 1 {
+        return Ok(());
+    }
+    say(shown, "version")?;
+    say_count(alloc, shown, version)?;
+    say(shown, " ")
 }
 
 /// Writes a theory's tree.
@@ -162,6 +192,7 @@ pub(crate) fn say_theory(
     source: &[u8],
     theory: &TheoryText,
 ) -> Result<(), AllocError> {
+    say_version(alloc, shown, theory.version)?;
     shown.extend_from_slice(theory.name.bytes())?;
     say(shown, ":")?;
     say_texts(shown, &theory.imports)?;

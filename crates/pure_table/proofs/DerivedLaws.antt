@@ -31,10 +31,9 @@ use Rattle.pure_promise.proofs.FateLaws.{proved_row}
 use Rattle.pure_theory_run.specs.SessionLaws.Loaded.{IsLoadedSession}
 use Rattle.pure_theory_run.specs.SessionMeaning.Statements.{forks_of, AreStatements}
 use Rattle.pure_theory_run.specs.SessionMeaning.Laws.{IsSomeFork, IsStanding, IsPromiseOf}
-use Rattle.pure_theory_run.proofs.SessionMeaning.OrderlyLaws.{runs_orderly}
 use Rattle.pure_theory_run.proofs.SessionMeaning.ForkLaws.{forks_stand}
 use Rattle.pure_theory_run.proofs.SessionMeaning.ProvableLaws.{forks_provable}
-use Rattle.pure_theory_run.proofs.SessionMeaning.PromiseLaws.{promises_are_forks}
+use Rattle.pure_theory_run.proofs.SessionMeaning.PromiseLaws.{promises_before_forks}
 use Rattle.pure_theory_run.proofs.SessionMeaning.LabelLaws.{labels_ascend}
 use Rattle.pure_theory_run.proofs.SessionMeaning.StatementLaws.{statements_bind_forks}
 use Rattle.pure_table.specs.Table.{IsOwn, IsEntryOf, AreEntriesOf}
@@ -66,9 +65,7 @@ module _ (texts : List (List ℕ)) (theories : List Loaded) (loaded : IsLoadedSe
   provable f (index, others, is) = forks_provable texts theories loaded index others f is
 
   unify : (f : Fork) → IsSomeFork texts theories f → IsUnifyContent f.content
-  unify f some =
-      let s = standing f some in
-      unify_content f.content (runs_orderly texts theories loaded s.index s.notes f.content s.left s.run).good.sound
+  unify f some = unify_content f.content (standing f some).orderly.good.sound
 
   -- a lemma whose proof came to these promises is shown
   pub shown_by : (f : Fork) → IsSomeFork texts theories f → (rests : List Label) → IsProofIn texts f.content f.lemma f.fixed f.script (Ok rests) → IsShownBy f rests
@@ -94,8 +91,8 @@ module _ (texts : List (List ℕ)) (theories : List Loaded) (loaded : IsLoadedSe
 
     earlier : (f : Fork) → IsIn f (forks_of notes) → (l : Label) (A : Term) → IsPromise f.content l A → IsEarlier (forks_of notes) f l A
     earlier f m l A (name, declared) =
-        let s = standing f (some_fork f m) in
-        by (promises_are_forks texts theories loaded s.index s.notes f.content s.left s.run name l A declared) (before-less l f.label (s.above name l A declared))
+        let some = some_fork f m in
+        by (promises_before_forks texts theories loaded f some name l A declared) (before-less l f.label ((standing f some).above name l A declared))
       where
         by : ((g : Fork) × IsSomeFork texts theories g × IsPromiseOf l A f.content g) → label_cmp l f.label ≡ Less → IsEarlier (forks_of notes) f l A
         by (g, some, of) less = record {

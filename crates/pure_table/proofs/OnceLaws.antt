@@ -16,7 +16,6 @@ use Rattle.pure_promise.specs.RowText.{fate_row}
 use Rattle.pure_theory_run.specs.SessionLaws.Loaded.{IsLoadedSession}
 use Rattle.pure_theory_run.specs.SessionMeaning.Statements.{forks_of}
 use Rattle.pure_theory_run.specs.SessionMeaning.Laws.{IsSomeFork}
-use Rattle.pure_theory_run.proofs.SessionMeaning.OrderlyLaws.{runs_orderly}
 use Rattle.pure_theory_run.proofs.SessionMeaning.StatementLaws.{statements_once}
 use Rattle.pure_table.specs.Table.{Table, IsOwn, IsEntryOf, AreEntriesOf}
 use Rattle.pure_table.specs.Laws.{TableOnce}
@@ -46,8 +45,7 @@ same_table n m es ds rs ss a b c = λ i. record { notes = a i; entries = b i; le
 module _ (texts : List (List ℕ)) (theories : List Loaded) (loaded : IsLoadedSession texts theories) where
   pub proof_once : (f : Fork) → IsSomeFork texts theories f → (o p : ProofOutcome) → IsProofIn texts f.content f.lemma f.fixed f.script o → IsProofIn texts f.content f.lemma f.fixed f.script p → o ≡ p
   proof_once f some o p h k =
-      let s = standing texts theories loaded f some in
-      let good = (runs_orderly texts theories loaded s.index s.notes f.content s.left s.run).good in
+      let good = (standing texts theories loaded f some).orderly.good in
       proof_in-once texts f.content (provable texts theories loaded f some).in_session good.sound.content good.antisymmetric f.lemma f.fixed f.script o p h k
 
   own_once : (cancelled : List Label) (f : Fork) → IsSomeFork texts theories f → (o p : Option ProofOutcome) → IsOwn texts cancelled f o → IsOwn texts cancelled f p → o ≡ p

@@ -10,7 +10,6 @@ use Rattle.pure_promise.specs.Entries.{LemmaEntry}
 use Rattle.pure_theory_run.proofs.Method.ReadyLaws.{ready, ready-fact, no-schematic}
 use Rattle.pure_theory_run.proofs.Method.InLemmaLaws.{names_have_answers}
 use Rattle.pure_theory_run.proofs.Method.ValueLaws.{proof_in-has_a_value}
-use Rattle.pure_theory_run.proofs.SessionMeaning.OrderlyLaws.{runs_orderly}
 use Rattle.pure_theory_run.specs.SessionLaws.Loaded.{IsLoadedSession}
 use Rattle.pure_theory_run.specs.SessionMeaning.Statements.{notes_of, forks_of}
 use Rattle.pure_theory_run.specs.SessionMeaning.Laws.{IsSomeFork}
@@ -23,8 +22,7 @@ use Rattle.pure_table.proofs.FillingLaws.{beside, rows_there}
 pub proofs_have_values : ProofsHaveValues
 proofs_have_values texts theories loaded f some =
     let p = provable texts theories loaded f some in
-    let s = standing texts theories loaded f some in
-    let r = ready texts f p (runs_orderly texts theories loaded s.index s.notes f.content s.left s.run).good.sound in
+    let r = ready texts f p (standing texts theories loaded f some).orderly.good.sound in
     proof_in-has_a_value texts f.content p.in_session r.unify f.lemma
     (record { found = names_have_answers texts f.content f.lemma (found_somehow texts f.content); normal = λ written th h. (ready-fact texts f.content r f.lemma written th h).normal })
     f.fixed p.proposition (no-schematic f.fixed p.statement.fixed) f.script p.script

@@ -12,7 +12,10 @@ use Rattle.pure_session.specs.Waiting.{seen_loaded}
 use Rattle.pure_logic.specs.Content.{Content}
 use Rattle.pure_print.specs.declared.row.Row.{Row}
 use Rattle.pure_graph.specs.Order.{Loaded}
+use Rattle.pure_graph.specs.Outcome.{part_count}
 use Rattle.pure_graph.specs.Session.{parent_refused_text}
+use Rattle.pure_session_meaning.specs.Declare.Seen.{seen_notes}
+use Rattle.pure_session_meaning.specs.Declare.declared.notes.Note as code_note
 use Rattle.pure_session_meaning.specs.Verdicts.{IsTheoryAt, AreLast, Begins, by_parent, not_coregular, beginning_over, refused_theory}
 use Rattle.pure_session_meaning.specs.SessionLaws.Loaded.{IsLoadedSession}
 use Rattle.pure_session_meaning.proofs.StepLaws.{run_begins}
@@ -72,11 +75,13 @@ module _ (texts : List (List ℕ)) (theories : List Loaded) (index : ℕ) (T : L
     },
   )
   stands-begun none (code.Going g) b = record {
-    way = subst (λ (Q : Content). IsUnderWay texts theories index [] Q g.left) (sym b.going_is.now) (record {
-      commands = T.text.commands;
-      run = run_begins texts theories index T at parents.verdicts parents.closed b.first (first-begins none g b);
-      count = b.going_is.left_is;
-    });
+    way = subst (λ (ws : List code_note.Note). IsUnderWay texts theories index (seen_notes ws) g.now.value g.left g.parts) (sym b.going_is.waiting)
+        (subst (λ (Q : Content). IsUnderWay texts theories index [] Q g.left g.parts) (sym b.going_is.now) (record {
+          commands = T.text.commands;
+          run = run_begins texts theories index T at parents.verdicts parents.closed b.first (first-begins none g b);
+          count = b.going_is.left_is;
+          parts_are = b.going_is.parts_are;
+        }));
     rows = b.going_is.rows;
   }
 
@@ -87,11 +92,12 @@ barred-named theories indexes place name theory (Ok row) named h = (name, named,
 barred-named theories indexes place name theory (Err e) named h = h
 
 -- None of its commands was run yet.
-pub first-over : (texts : List (List ℕ)) (index : ℕ) (t : loaded.Loaded) (Qs : List Content) (g : Going) (first : Content) (name left : ℕ) → HasText texts name t.name
-    → MayBegin (record { name = name; index = index }) Qs → IsBeginning (record { name = name; index = index }) Qs first → left ≡ length t.text.commands.items → IsFirst left first g → IsFirstOver texts index (seen_loaded t) Qs g
-first-over texts index t Qs g first name left text may begins count f = record {
+pub first-over : (texts : List (List ℕ)) (index : ℕ) (t : loaded.Loaded) (Qs : List Content) (g : Going) (first : Content) (name left parts : ℕ) → HasText texts name t.name
+    → MayBegin (record { name = name; index = index }) Qs → IsBeginning (record { name = name; index = index }) Qs first → left ≡ length t.text.commands.items
+    → parts ≡ part_count (seen_loaded t).text.commands → IsFirst left parts first g → IsFirstOver texts index (seen_loaded t) Qs g
+first-over texts index t Qs g first name left parts text may begins count own f = record {
   first = first;
-  going_is = subst (λ (n : ℕ). IsFirst n first g) (count ∙ sym (length-map t.text.commands.items seen_command)) f;
+  going_is = subst (λ (p : ℕ). IsFirst (length (seen_loaded t).text.commands) p first g) own (subst (λ (n : ℕ). IsFirst n parts first g) (count ∙ sym (length-map t.text.commands.items seen_command)) f);
   name = name;
   text = text;
   may = may;

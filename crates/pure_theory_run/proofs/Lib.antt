@@ -7,6 +7,7 @@ pub mod PlaceLaws
 pub mod ItemLaws
 pub mod OutlineLaws
 pub mod BeginLaws
+pub mod CountLaws
 pub mod CommandLaws
 pub mod CheckerLaws
 pub mod NamedLaws

@@ -1,5 +1,5 @@
 -- The lemma of a session that has some name: it is found by a walk, is one that the session binds, and its theory is the one that its label names.
-use Rattle.std.proofs.Common.{◌≡◌, ◌∙◌, ◌<◌, ℕ, ◌+◌, Bool, true, false, List, [], ◌∷◌, length, drop, get_or, add-one, drop-cons, refl, sym, ap, subst, inl, inr, Option, Some, None}
+use Rattle.std.proofs.Common.{◌≡◌, ◌∙◌, ◌<◌, ℕ, ◌+◌, Bool, true, false, List, [], ◌∷◌, length, drop, get_or, add-one, drop-cons, refl, sym, ap, subst, inl, inr, Some}
 use Rattle.std.specs.Prelude.{find, cond}
 use Rattle.std.specs.List.{flat_map}
 use Rattle.std.proofs.lemmas.Option.{same_Some}

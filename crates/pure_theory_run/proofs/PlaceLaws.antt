@@ -7,7 +7,10 @@ use Rattle.std.proofs.lemmas.List.{length-map}
 use Rattle.pure_text.specs.Lists.{Each}
 use Rattle.pure_grammar.specs.Theories.TheoryText.{Command}
 use Rattle.pure_script.specs.Seen.{seen_command}
+use Rattle.pure_graph.specs.Limits.{parts_bound}
 use Rattle.pure_graph.specs.Order.{Loaded}
+use Rattle.pure_graph.specs.Outcome.{part_count}
+use Rattle.pure_graph.proofs.LimitLemmas.{parts-bounded}
 use Rattle.pure_graph.proofs.HeaderLemmas.{commands-counted}
 use Rattle.pure_session.specs.declared.order.Loaded as code
 use Rattle.pure_session.specs.Waiting.{seen_loaded, all_loaded}
@@ -47,11 +50,15 @@ each-get P (x ∷ xs) d (suc i) h within = each-get P xs d i h.1 (omega (arith, 
 
 module _ (texts : List (List ℕ)) (theories : List Loaded) (session : IsLoadedSession texts theories) where
   -- A loaded theory has few commands.
-  pub commands-few : (index : ℕ) (l : code.Loaded) → IsTheoryAt theories index (seen_loaded l) → length l.text.commands.items ≤ 512
-  commands-few index l at = omega (arith, (theory-well texts theories session index (seen_loaded l) at).few, commands-counted (seen_loaded l).text.commands, length-map l.text.commands.items seen_command)
+  pub commands-few : (index : ℕ) (l : code.Loaded) → IsTheoryAt theories index (seen_loaded l) → length l.text.commands.items ≤ parts_bound
+  commands-few index l at = omega (arith, (theory-well texts theories session index (seen_loaded l) at).few, parts-bounded (seen_loaded l).text.version, commands-counted (seen_loaded l).text.commands, length-map l.text.commands.items seen_command)
 
-  pub place-few : (index : ℕ) (T : Loaded) → IsTheoryAt theories index T → (place : ℕ) (command : Command) → slice_get T.text.commands place ≡ Some command → place < 512
-  place-few index T at place command held = omega (arith, (theory-well texts theories session index T at).few, commands-counted T.text.commands, slice_get_within T.text.commands place command held)
+  -- So are their parts.
+  pub parts-few : (index : ℕ) (l : code.Loaded) → IsTheoryAt theories index (seen_loaded l) → part_count (seen_loaded l).text.commands < 4294967296
+  parts-few index l at = omega (arith, (theory-well texts theories session index (seen_loaded l) at).few, parts-bounded (seen_loaded l).text.version)
+
+  pub place-few : (index : ℕ) (T : Loaded) → IsTheoryAt theories index T → (place : ℕ) (command : Command) → slice_get T.text.commands place ≡ Some command → place < parts_bound
+  place-few index T at place command held = omega (arith, (theory-well texts theories session index T at).few, parts-bounded T.text.version, commands-counted T.text.commands, slice_get_within T.text.commands place command held)
 
   -- Its parents are among those before it.
   pub parents-before : (index before : ℕ) (T : Loaded) → IsTheoryAt theories index T → index ≡ before + 1 → Each (λ p. (1 ≤ p) × (p ≤ before)) T.parents

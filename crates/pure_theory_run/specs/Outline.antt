@@ -1,4 +1,4 @@
--- What a theory leaves when it closes: the row by which it was refused, or the rows of its commands, with a hole at each lemma, and its last content.
+-- What a theory leaves when it closes: the row by which it was refused, or the rows of its commands, with a hole at each lemma and have, and its last content.
 use Rattle.std.specs.Prelude.{List, [], ◌∷◌, map, Bool, true, false, Option, Some, None}
 use Rattle.std.specs.declared.alloc.Global.{Global}
 use Rattle.std.specs.declared.sync.Arc.{Arc}
@@ -12,7 +12,7 @@ pub data Outline : Type 0 where
   Barred : (row : Row) → Outline
   Ran : (rows : List (Option Row)) → (last : Content) → Outline
 
--- the row that a note is; a lemma's row comes of its proof
+-- the row that a note is; that of a lemma or have comes of its proof
 abbrev pub row_of : Note → Option Row
 row_of (Said row) = Some row
 row_of (Forked fork) = None
@@ -21,7 +21,7 @@ row_of (Forked fork) = None
 abbrev pub rows_of : List Note → List (Option Row)
 rows_of = map row_of
 
--- what is left of what became of a theory, when its lemmas have moved on to be proved
+-- what is left of what became of a theory, when its lemmas and haves have moved on to be proved
 abbrev pub outline : Verdict → Outline
 outline (verdicts.Barred row) = Barred row
 outline (verdicts.Ran notes last) = Ran (rows_of notes) last

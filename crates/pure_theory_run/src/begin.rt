@@ -13,6 +13,7 @@ ghost use Rattle.pure_theory_run.specs.Begun.{IsFirst, IsBegunOver};
 use crate::checker::Checker;
 use crate::closed::Closed;
 use crate::parents::first_barred;
+use crate::parts::part_count;
 use crate::refused::{not_begun, parent_refused};
 use crate::run::{Going, Run, Standing};
 use pure_print::Row;
@@ -21,6 +22,7 @@ use pure_session_meaning::theory::{Stage, Theory};
 use pure_theory_tables::shared;
 use pure_typ::Name;
 use std::alloc::AllocError;
+use std::collections::VecDeque;
 use std::sync::Arc;
 
 /// The index at the place.
@@ -52,14 +54,16 @@ impl Checker {
     }
 
     /// What has begun with this content.
-    fn going(&self, left: u32, first: Theory) -> Result<Going, AllocError>
-        ensures { IfOk result (λ going. IsFirst left first going) }
+    fn going(&self, left: u32, parts: usize, first: Theory) -> Result<Going, AllocError>
+        ensures { IfOk result (λ going. IsFirst left parts first going) }
     {
         let now = shared(self.alloc, first)?;
         Ok(Going {
             rows: Vec::new(self.alloc),
             now,
             left,
+            parts,
+            waiting: VecDeque::new(self.alloc),
         })
     }
 
@@ -78,9 +82,10 @@ impl Checker {
     {
         self.is_loaded_session();
         let left = theory.text.commands.len() as u32;
+        let parts = part_count(theory.text.commands.as_slice());
         match Theory::begin(self.alloc, index, name, stages) {
             Ok(first) => {
-                let going = self.going(left, first)?;
+                let going = self.going(left, parts, first)?;
                 Ok(Standing::Going { going })
             }
             Err(fault) => {

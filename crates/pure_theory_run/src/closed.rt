@@ -7,14 +7,14 @@ use pure_print::Row;
 use pure_session_meaning::theory::Stage;
 use std::marker::Model;
 
-/// The row by which a theory was refused, or the rows that its commands left, with a hole at each lemma, and its last stage.
+/// The row by which a theory was refused, or the rows that its commands left, with a hole at each lemma and have, and its last stage.
 #[derive(Drop)]
 enum Ending {
     Barred { row: Row },
     Ran { rows: Vec<Option<Row>>, last: Stage },
 }
 
-/// What a theory leaves when it closes: the row by which it was refused when it began, or the rows that its commands left, with a hole at each lemma, and its last stage.
+/// What a theory leaves when it closes: the row by which it was refused when it began, or the rows that its commands left, with a hole at each lemma and have, and its last stage.
 #[derive(Drop)]
 pub struct Closed {
     ending: Ending,
@@ -72,7 +72,7 @@ impl Closed {
         }
     }
 
-    /// The rows of its commands, with a hole at each lemma; a theory that was refused has none.
+    /// The rows of its commands, with a hole at each lemma and have; a theory that was refused has none.
     pub fn rows(&self) -> &[Option<Row>]
         ensures { result.now ≡ command_rows self.now }
     {

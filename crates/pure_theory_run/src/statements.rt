@@ -16,7 +16,7 @@ use pure_theory_tables::shared;
 use std::alloc::AllocError;
 use std::sync::Arc;
 
-/// What the statements of a session leave: what each theory left, in load order, and all lemmas that they bound, in order of their labels.
+/// What the statements of a session leave: what each theory left, in load order, and all lemmas and haves that they bound, in order of their labels.
 #[derive(Drop)]
 pub struct Statements {
     pub closed: Vec<Arc<Closed>>,
@@ -24,7 +24,7 @@ pub struct Statements {
 }
 
 impl Checker {
-    /// One turn of the run, whose lemma, if it binds one, is put behind the others; what the theory leaves, where it closes.
+    /// One turn of the run, whose lemma or have, if it binds one, is put behind the others; what the theory leaves, where it closes.
     fn take_turn(&self, run: &mut Run, duties: &mut Vec<Duty>) -> Result<Option<Closed>, AllocError>
         requires { (index : ℕ) × (past : List notes.Note) × IsRunOf self.now.texts self.now.theories index past run.old }
         ensures { IfOk result (λ closed. (index : ℕ) (past : List notes.Note) → IsRunOf self.now.texts self.now.theories index past run.old → IsTaken self.now.texts self.now.theories index past run.old run.new duties.old.items duties.new.items closed) }
@@ -39,7 +39,7 @@ impl Checker {
         }
     }
 
-    /// Runs the theory from what its parents left until it closes, and puts its lemmas behind the others.
+    /// Runs the theory from what its parents left until it closes, and puts its lemmas and haves behind the others.
     fn run_theory(
         &self,
         theory: u32,

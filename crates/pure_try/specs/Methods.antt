@@ -1,12 +1,12 @@
 -- Proofs of a lemma in one step, and the order in which they are tried.
-use Rattle.std.specs.Prelude.{◌==◌, ℕ, List, [], ◌∷◌, ◌++◌, map, if◌then◌else◌}
-use Rattle.pure_definitions.specs.Names.{protect_name}
+use Rattle.std.specs.Prelude.{ℕ, List, [], ◌∷◌, ◌++◌, map, if◌then◌else◌}
 use Rattle.pure_definitions.specs.Declarations.Decl.{Decl, AxiomDecl, PromiseDecl}
 use Rattle.pure_grammar.specs.Theories.TheoryText as tree
 use Rattle.pure_grammar.specs.Theories.TheoryText.{Step}
 use Rattle.pure_logic.specs.Content.{Content}
 use Rattle.pure_lookup.specs.Meaning.{built_texts}
 use Rattle.pure_print.specs.NameText.{text_of_name}
+use Rattle.pure_check_work.specs.TheoryRun.Named.{is_written}
 use Rattle.pure_try.specs.declared.method.Method.{Method}
 use Rattle.pure_try.specs.declared.method.Method.TheVariants.{Assumption, Rule}
 
@@ -15,9 +15,9 @@ abbrev pub script_of : Method → List Step
 script_of Assumption = tree.Assumption ∷ tree.Close ∷ tree.Done ∷ []
 script_of (Rule fact) = tree.Rule fact ∷ tree.Close ∷ tree.Done ∷ []
 
--- the full name of what is declared under the name, if it may be written: the mark of a goal may not
+-- the full name of what is declared under the name, if it is found by it: a have isn't
 abbrev pub written_name : (texts : List (List ℕ)) → (name : ℕ) → List (List ℕ)
-written_name texts name = if name == protect_name then [] else (text_of_name texts name ∷ [])
+written_name texts name = if is_written texts name then (text_of_name texts name ∷ []) else []
 
 -- the full name of the axiom or the promise that is declared; what else is declared is no fact
 abbrev pub fact_name : (texts : List (List ℕ)) → Decl → List (List ℕ)

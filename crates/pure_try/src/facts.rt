@@ -7,14 +7,11 @@ ghost use Rattle.pure_try.specs.declared.method.Method.TheVariants as shown;
 
 use crate::method::Method;
 use pure_check_work::theory::Theory;
-use pure_check_work::theory_run::text_of;
+use pure_check_work::theory_run::{is_written, text_of};
 use pure_text::Text;
 use pure_theory_tables::Decl;
 use pure_typ::{Name, NamesByBase};
 use std::alloc::{AllocError, Global};
-
-/// The number of the mark of a goal, which can't be written.
-const PROTECT: u32 = 5;
 
 /// Adds the rule that is a fact with this full name.
 fn add_rule(alloc: Global, methods: &mut Vec<Method>, fact: &[u8]) -> Result<(), AllocError>
@@ -41,7 +38,7 @@ fn first_methods(alloc: Global) -> Result<Vec<Method>, AllocError>
     Ok(methods)
 }
 
-/// Adds the rule that is the fact of this name, if it may be written.
+/// Adds the rule that is the fact of this name, if it is found by it.
 fn add_named(
     alloc: Global,
     names: &NamesByBase,
@@ -50,10 +47,10 @@ fn add_named(
 ) -> Result<(), AllocError>
     ensures { OnOk result (methods.new.items ≡ methods.old.items ++ map shown.Rule (written_name names.now name)) }
 {
-    if name.0 == PROTECT {
-        return Ok(());
+    if is_written(names, name) {
+        return add_rule(alloc, methods, text_of(names, name));
     }
-    add_rule(alloc, methods, text_of(names, name))
+    Ok(())
 }
 
 /// Adds the rule that is the fact which is declared, if one is.

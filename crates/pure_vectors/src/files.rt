@@ -6,7 +6,10 @@ use pure_rows::Fault;
 use pure_text::Text;
 use std::alloc::{AllocError, Global};
 
-/// How each theory begins.
+/// What stands before a theory of the second version.
+const VERSION: &[u8] = b"version 2 ";
+
+/// How each theory begins, or goes on behind its version.
 const HEAD: &[u8] = b"theory ";
 
 /// Adds the file with this name and this text.
@@ -74,9 +77,16 @@ fn is_outside(byte: &u8) -> bool {
     !byte.is_ascii_alphanumeric() && *byte != b'_' && *byte != b'\''
 }
 
+/// What stands behind the beginning of a theory.
+fn behind_head(text: &[u8]) -> Option<&[u8]> {
+    text.strip_prefix(VERSION)
+        .unwrap_or(text)
+        .strip_prefix(HEAD)
+}
+
 /// The name of the theory that begins so.
 fn name_of(text: &[u8]) -> &[u8] {
-    let behind = text.strip_prefix(HEAD).unwrap_or(b"");
+    let behind = behind_head(text).unwrap_or(b"");
     match behind.iter().position(is_outside) {
         Some(end) => &behind[..end],
         None => behind,
@@ -107,7 +117,7 @@ fn push_line(
     text: &mut Vec<u8>,
     line: &[u8],
 ) -> Result<(), AllocError> {
-    if line.starts_with(HEAD) {
+    if behind_head(line).is_some() {
         push_theory(alloc, files, text)?;
         text.clear();
     }

@@ -27,12 +27,13 @@ use std::sync::Wait;
 use std::thread::Threads;
 
 /// The files of rows.
-const FILES: [&str; 15] = [
+const FILES: [&str; 16] = [
     "examples.rows",
     "guide.rows",
     "worked.rows",
     "commands.rows",
     "proofs.rows",
+    "haves.rows",
     "limits.rows",
     "faults.rows",
     "generated.rows",

@@ -7,14 +7,14 @@ use Rattle.pure_grammar.specs.Theories.TheoryText.{TheoryText}
 use Rattle.pure_grammar.specs.Theories.Lexeme.{Lexeme, kind_of, lexemes}
 use Rattle.pure_grammar.specs.Theories.Phrase.{FilePhrase}
 use Rattle.pure_grammar.specs.Theories.PhraseText.{file_text}
-use Rattle.pure_grammar.specs.Theories.PhraseTree.{file_tree, IsCommandPhrase}
+use Rattle.pure_grammar.specs.Theories.PhraseTree.{version_of, file_tree, IsCommandPhrase}
 
 -- the list is a text of the grammar that means this tree
 pub record IsTheory (ls : List Lexeme) (theory : TheoryText) : Type 0 where
   pub file : FilePhrase
   pub spelled : file_text file ≡ ls
   pub means : file_tree file ≡ theory
-  pub distinct : AllByRecursion IsCommandPhrase file.commands
+  pub allowed : AllByRecursion (IsCommandPhrase (version_of file.version)) file.commands
 
 -- The tokens of the source spell the tree of a theory.
 abbrev pub SpellsTheory : List ℕ → List Token → TheoryText → Type 0

@@ -90,13 +90,18 @@ pub data LemmaWord : Type 0 where
   LemmaWritten : LemmaWord
   TheoremWritten : LemmaWord
 
+-- have = "have" Ident ":" Quote proof
+pub record HavePhrase : Type 0 where
+  pub statement : AxiomPhrase
+  pub proof : ProofPhrase
+
 -- command = "class" Ident ["<" Ident' {Ident'}]
 --         | "typedecl" [TypeVar | "(" TypeVar {"," TypeVar} ")"] Ident
 --         | "arities" Ident' "::" ["(" sort {"," sort} ")"] Ident'
 --         | "consts" item {item}
 --         | "axiomatization" "where" Ident ":" Quote {"and" Ident ":" Quote}
 --         | "definition" Ident "::" type "where" Quote
---         | ("lemma" | "theorem") Ident ":" Quote proof
+--         | ("lemma" | "theorem") Ident ":" Quote {have} proof
 pub data CommandPhrase : Type 0 where
   ClassCommand : (name : Ident) → (above : AbovePhrase) → CommandPhrase
   TypedeclCommand : (params : ParamsPhrase) → (name : Ident) → CommandPhrase
@@ -104,15 +109,21 @@ pub data CommandPhrase : Type 0 where
   ConstsCommand : (item : ItemPhrase) → (more : List ItemPhrase) → CommandPhrase
   AxiomsCommand : (part : AxiomPhrase) → (more : List AxiomPhrase) → CommandPhrase
   DefinitionCommand : (item : ItemPhrase) → (prop : Span) → CommandPhrase
-  LemmaCommand : (word : LemmaWord) → (statement : AxiomPhrase) → (proof : ProofPhrase) → CommandPhrase
+  LemmaCommand : (word : LemmaWord) → (statement : AxiomPhrase) → (haves : List HavePhrase) → (proof : ProofPhrase) → CommandPhrase
 
 -- ["imports" Ident {Ident}]
 pub data ImportsPhrase : Type 0 where
   NoImport : ImportsPhrase
   Imports : (theory : Ident) → (more : List Ident) → ImportsPhrase
 
--- file = "theory" Ident ["imports" Ident {Ident}] "begin" {command} "end" End
+-- ["version" Number]
+pub data VersionPhrase : Type 0 where
+  NoVersion : VersionPhrase
+  WrittenVersion : (number : ℕ) → VersionPhrase
+
+-- file = ["version" Number] "theory" Ident ["imports" Ident {Ident}] "begin" {command} "end" End
 pub record FilePhrase : Type 0 where
+  pub version : VersionPhrase
   pub name : Ident
   pub imports : ImportsPhrase
   pub commands : List CommandPhrase

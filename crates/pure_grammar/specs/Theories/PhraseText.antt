@@ -3,7 +3,7 @@ use Rattle.std.specs.Prelude.{ℕ, List, [], ◌∷◌, codes}
 use Rattle.pure_grammar.specs.declared.lexeme.Keyword.TheVariants as keyword
 use Rattle.pure_grammar.specs.declared.lexeme.Sign.TheVariants as sign
 use Rattle.pure_grammar.specs.Theories.Lexeme.{Lexeme, Reserved, Signed, Plain, Dotted, Variable, Numeral, Quoted, Ends}
-use Rattle.pure_grammar.specs.Theories.Phrase.{Ident, Name, Simple, Full, TypeVariable, TypePhrase, QuotedType, NamedType, VariableType, SortPhrase, OneClass, NoClass, Classes, BasicPhrase, ByAssumption, ByRule, ByErule, ByDrule, ByUnfold, MethodPhrase, Alone, Together, StepPhrase, ApplyStep, PreferStep, DeferStep, EndPhrase, DoneEnd, ByEnd, ProofPhrase, AbovePhrase, NoneAbove, Above, ParamsPhrase, NoParam, OneParam, Params, DomainsPhrase, NoDomain, Domains, ItemPhrase, AxiomPhrase, LemmaWord, LemmaWritten, TheoremWritten, CommandPhrase, ClassCommand, TypedeclCommand, AritiesCommand, ConstsCommand, AxiomsCommand, DefinitionCommand, LemmaCommand, ImportsPhrase, NoImport, Imports, FilePhrase}
+use Rattle.pure_grammar.specs.Theories.Phrase.{Ident, Name, Simple, Full, TypeVariable, TypePhrase, QuotedType, NamedType, VariableType, SortPhrase, OneClass, NoClass, Classes, BasicPhrase, ByAssumption, ByRule, ByErule, ByDrule, ByUnfold, MethodPhrase, Alone, Together, StepPhrase, ApplyStep, PreferStep, DeferStep, EndPhrase, DoneEnd, ByEnd, ProofPhrase, AbovePhrase, NoneAbove, Above, ParamsPhrase, NoParam, OneParam, Params, DomainsPhrase, NoDomain, Domains, ItemPhrase, AxiomPhrase, LemmaWord, LemmaWritten, TheoremWritten, CommandPhrase, ClassCommand, TypedeclCommand, AritiesCommand, ConstsCommand, AxiomsCommand, DefinitionCommand, LemmaCommand, HavePhrase, ImportsPhrase, NoImport, Imports, VersionPhrase, NoVersion, WrittenVersion, FilePhrase}
 
 -- {X}
 abbrev pub each : {A : Type 0} → (A → List Lexeme → List Lexeme) → List A → List Lexeme → List Lexeme
@@ -100,6 +100,9 @@ abbrev pub lemma_word_text : LemmaWord → List Lexeme → List Lexeme
 lemma_word_text LemmaWritten r = Reserved keyword.Lemma ∷ r
 lemma_word_text TheoremWritten r = Reserved keyword.Theorem ∷ r
 
+abbrev pub have_text : HavePhrase → List Lexeme → List Lexeme
+have_text h r = Reserved keyword.Have ∷ axiom_text h.statement (proof_text h.proof r)
+
 abbrev pub command_text : CommandPhrase → List Lexeme → List Lexeme
 command_text (ClassCommand x above) r = Reserved keyword.Class ∷ ident_text x (above_text above r)
 command_text (TypedeclCommand params x) r = Reserved keyword.Typedecl ∷ params_text params (ident_text x r)
@@ -107,13 +110,17 @@ command_text (AritiesCommand con doms class) r = Reserved keyword.Arities ∷ na
 command_text (ConstsCommand i is) r = Reserved keyword.Consts ∷ item_text i (each item_text is r)
 command_text (AxiomsCommand a as_more) r = Reserved keyword.Axiomatization ∷ Reserved keyword.Where ∷ axiom_text a (each and_axiom_text as_more r)
 command_text (DefinitionCommand i prop) r = Reserved keyword.Definition ∷ item_text i (Reserved keyword.Where ∷ Quoted prop ∷ r)
-command_text (LemmaCommand word a p) r = lemma_word_text word (axiom_text a (proof_text p r))
+command_text (LemmaCommand word a haves p) r = lemma_word_text word (axiom_text a (each have_text haves (proof_text p r)))
 
 abbrev pub imports_text : ImportsPhrase → List Lexeme → List Lexeme
 imports_text NoImport r = r
 imports_text (Imports x xs) r = Reserved keyword.Imports ∷ ident_text x (each ident_text xs r)
 
+abbrev pub version_text : VersionPhrase → List Lexeme → List Lexeme
+version_text NoVersion r = r
+version_text (WrittenVersion n) r = Reserved keyword.Version ∷ Numeral n ∷ r
+
 abbrev pub file_text : FilePhrase → List Lexeme
 file_text f =
-    Reserved keyword.Theory ∷ ident_text f.name (imports_text f.imports (Reserved keyword.Begin
-    ∷ each command_text f.commands (Reserved keyword.End ∷ Ends ∷ [])))
+    version_text f.version (Reserved keyword.Theory ∷ ident_text f.name (imports_text f.imports (Reserved keyword.Begin
+    ∷ each command_text f.commands (Reserved keyword.End ∷ Ends ∷ []))))

@@ -1,11 +1,11 @@
 -- What each phrase of the grammar means, as a part of the theory's tree.
-use Rattle.std.specs.Prelude.{ℕ, List, [], ◌∷◌, ◌++◌, map, length, if◌then◌else◌, codes}
+use Rattle.std.specs.Prelude.{◌≡◌, ℕ, List, [], ◌∷◌, ◌++◌, map, length, if◌then◌else◌, codes}
 use Rattle.std.specs.List.{list_any}
 use Rattle.pure_text.specs.Lists.{AreDistinct}
-use Rattle.pure_grammar.specs.Theories.TheoryText.{Span, Step, Command, TheoryText}
+use Rattle.pure_grammar.specs.Theories.TheoryText.{Span, Step, Have, Command, TheoryText}
 use Rattle.pure_grammar.specs.Theories.TheoryText as tree
 use Rattle.pure_grammar.specs.Theories.Lexeme.{same}
-use Rattle.pure_grammar.specs.Theories.Phrase.{Ident, Name, Simple, Full, TypeVariable, TypePhrase, QuotedType, NamedType, VariableType, SortPhrase, OneClass, NoClass, Classes, BasicPhrase, ByAssumption, ByRule, ByErule, ByDrule, ByUnfold, MethodPhrase, Alone, Together, StepPhrase, ApplyStep, PreferStep, DeferStep, EndPhrase, DoneEnd, ByEnd, ProofPhrase, AbovePhrase, NoneAbove, Above, ParamsPhrase, NoParam, OneParam, Params, DomainsPhrase, NoDomain, Domains, ItemPhrase, AxiomPhrase, CommandPhrase, ClassCommand, TypedeclCommand, AritiesCommand, ConstsCommand, AxiomsCommand, DefinitionCommand, LemmaCommand, ImportsPhrase, NoImport, Imports, FilePhrase}
+use Rattle.pure_grammar.specs.Theories.Phrase.{Ident, Name, Simple, Full, TypeVariable, TypePhrase, QuotedType, NamedType, VariableType, SortPhrase, OneClass, NoClass, Classes, BasicPhrase, ByAssumption, ByRule, ByErule, ByDrule, ByUnfold, MethodPhrase, Alone, Together, StepPhrase, ApplyStep, PreferStep, DeferStep, EndPhrase, DoneEnd, ByEnd, ProofPhrase, AbovePhrase, NoneAbove, Above, ParamsPhrase, NoParam, OneParam, Params, DomainsPhrase, NoDomain, Domains, ItemPhrase, AxiomPhrase, CommandPhrase, ClassCommand, TypedeclCommand, AritiesCommand, ConstsCommand, AxiomsCommand, DefinitionCommand, LemmaCommand, HavePhrase, ImportsPhrase, NoImport, Imports, VersionPhrase, NoVersion, WrittenVersion, FilePhrase}
 
 -- what each item of a list gives, one after another
 abbrev pub all_of : {A B : Type 0} → (A → List B) → List A → List B
@@ -80,6 +80,9 @@ item_command i = tree.Const i.name.text (type_span i.typ)
 abbrev pub axiom_command : AxiomPhrase → Command
 axiom_command a = tree.Axiom a.name.text a.prop
 
+abbrev pub have_of : HavePhrase → Have
+have_of h = record { name = h.statement.name.text; prop = h.statement.prop; script = proof_steps h.proof }
+
 -- each item of `consts` and each part of `axiomatization` is a command
 abbrev pub phrase_commands : CommandPhrase → List Command
 phrase_commands (ClassCommand x above) = tree.Class x.text (above_of above) ∷ []
@@ -88,7 +91,7 @@ phrase_commands (AritiesCommand con doms class) = tree.Arity (name_of con) (doma
 phrase_commands (ConstsCommand i is) = item_command i ∷ map item_command is
 phrase_commands (AxiomsCommand a more) = axiom_command a ∷ map axiom_command more
 phrase_commands (DefinitionCommand i prop) = tree.Definition i.name.text (type_span i.typ) prop ∷ []
-phrase_commands (LemmaCommand word a p) = tree.Lemma a.name.text a.prop [] (proof_steps p) ∷ []
+phrase_commands (LemmaCommand word a haves p) = tree.Lemma a.name.text a.prop (map have_of haves) (proof_steps p) ∷ []
 
 abbrev pub commands_of : List CommandPhrase → List Command
 commands_of = all_of phrase_commands
@@ -107,10 +110,16 @@ abbrev pub imports_of : ImportsPhrase → List (List ℕ)
 imports_of NoImport = codes "Pure" ∷ []
 imports_of (Imports x xs) = mentions (x.text ∷ []) xs
 
-abbrev pub file_tree : FilePhrase → TheoryText
-file_tree f = record { version = 1; name = f.name.text; imports = imports_of f.imports; commands = commands_of f.commands }
+-- a theory without a version is of version 1
+abbrev pub version_of : VersionPhrase → ℕ
+version_of NoVersion = 1
+version_of (WrittenVersion n) = n
 
--- the type variables of a typedecl are distinct
-abbrev pub IsCommandPhrase : CommandPhrase → Type 0
-IsCommandPhrase (TypedeclCommand params x) = AreDistinct (params_of params)
-IsCommandPhrase _ = Unit {0}
+abbrev pub file_tree : FilePhrase → TheoryText
+file_tree f = record { version = version_of f.version; name = f.name.text; imports = imports_of f.imports; commands = commands_of f.commands }
+
+-- The type variables of a typedecl are distinct, and in a file of version 1 no lemma has a have.
+abbrev pub IsCommandPhrase : ℕ → CommandPhrase → Type 0
+IsCommandPhrase version (TypedeclCommand params x) = AreDistinct (params_of params)
+IsCommandPhrase version (LemmaCommand word a haves p) = version ≡ 1 → haves ≡ []
+IsCommandPhrase version _ = Unit {0}

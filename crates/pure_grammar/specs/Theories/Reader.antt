@@ -1,11 +1,11 @@
 -- What a reader of a theory's text does with one lexeme after another. Outer says what the text means.
-use Rattle.std.specs.Prelude.{ℕ, Bool, true, false, Option, Some, None, List, [], ◌∷◌, ◌++◌, length, if◌then◌else◌, codes}
+use Rattle.std.specs.Prelude.{ℕ, ◌==◌, Bool, true, false, Option, Some, None, List, [], ◌∷◌, ◌++◌, length, if◌then◌else◌, codes}
 use Rattle.std.specs.List.{list_any}
 use Rattle.pure_grammar.specs.declared.lexeme.Keyword.TheVariants as keyword
 use Rattle.pure_grammar.specs.declared.lexeme.Sign.TheVariants as sign
 use Rattle.pure_grammar.specs.declared.token.TokenKind.{TokenKind}
 use Rattle.pure_grammar.specs.declared.token.TokenKind.TheVariants as kind
-use Rattle.pure_grammar.specs.Theories.TheoryText.{Span, Step, Command, TheoryText}
+use Rattle.pure_grammar.specs.Theories.TheoryText.{Span, Step, Have, Command, TheoryText}
 use Rattle.pure_grammar.specs.Theories.TheoryText as tree
 use Rattle.pure_grammar.specs.Theories.Lexeme.{Lexeme, Ends, same, is_word, is_sign, is_ident, ident_in, name_in, variable_in, number_in, quote_in, type_in}
 use Rattle.pure_grammar.specs.Theories.PhraseTree.{with_text}
@@ -32,6 +32,24 @@ pub data ProofPlace : Type 0 where
   AtFact : (last : Bool) → (method : FactMethod) → ProofPlace
   AtUnfolded : (last : Bool) → ProofPlace
   AfterUnfolded : (last : Bool) → (facts : List (List ℕ)) → ProofPlace
+
+-- A lemma whose own proof hasn't begun, with its haves so far.
+pub record OpenLemma : Type 0 where
+  pub name : List ℕ
+  pub prop : Span
+  pub haves : List Have
+
+abbrev pub with_have : OpenLemma → List ℕ → Span → List Step → OpenLemma
+with_have lemma name prop script = record {
+  name = lemma.name;
+  prop = lemma.prop;
+  haves = lemma.haves ++ (record { name = name; prop = prop; script = script }) ∷ [];
+}
+
+-- What a proof is of: a lemma, or a have of it with this name and text.
+pub data Goal : Type 0 where
+  OfLemma : (lemma : OpenLemma) → Goal
+  OfHave : (lemma : OpenLemma) → (name : List ℕ) → (prop : Span) → Goal
 
 -- A place among the commands, with what was read of the current one.
 pub data Place : Type 0 where
@@ -71,7 +89,11 @@ pub data Place : Type 0 where
   AtLemma : Place
   AfterLemma : (name : List ℕ) → Place
   AtLemmaText : (name : List ℕ) → Place
-  InProof : (name : List ℕ) → (prop : Span) → (script : List Step) → (place : ProofPlace) → Place
+  AtProof : (lemma : OpenLemma) → Place
+  AtHave : (lemma : OpenLemma) → Place
+  AfterHave : (lemma : OpenLemma) → (name : List ℕ) → Place
+  AtHaveText : (lemma : OpenLemma) → (name : List ℕ) → Place
+  InProof : (goal : Goal) → (script : List Step) → (place : ProofPlace) → Place
 
 -- What a lexeme leads to: another place, or a command that it ends and another place, or nothing.
 pub data Turn : Type 0 where
@@ -121,51 +143,65 @@ abbrev pub new_param : List (List ℕ) → Option (List ℕ) → Turn
 new_param params None = Refuses
 new_param params (Some x) = if list_any (same x) params then Refuses else Moves (AfterParam (params ++ x ∷ []))
 
--- A step of the proof is read; behind the last one `by m` closes.
-abbrev pub after_method : List ℕ → Span → Bool → List Step → Turn
-after_method name prop true script = Adds (tree.Lemma name prop [] (script ++ (tree.Close ∷ tree.Done ∷ []))) AtCommand
-after_method name prop false script = Moves (InProof name prop script AtStep)
+-- A proof is read: that of a lemma ends its command, that of a have puts the have behind the others.
+abbrev pub proved : Goal → List Step → Turn
+proved (OfLemma lemma) script = Adds (tree.Lemma lemma.name lemma.prop lemma.haves script) AtCommand
+proved (OfHave lemma name prop) script = Moves (AtProof (with_have lemma name prop script))
 
-abbrev pub basic_turn : List ℕ → Span → List Step → Bool → Lexeme → Turn
-basic_turn name prop script last l =
-    if is_ident assumption_word l then Moves (InProof name prop (script ++ tree.Assumption ∷ []) (AfterBasic last))
-    else (if is_ident rule_word l then Moves (InProof name prop script (AtFact last OfRule))
-    else (if is_ident erule_word l then Moves (InProof name prop script (AtFact last OfErule))
-    else (if is_ident drule_word l then Moves (InProof name prop script (AtFact last OfDrule))
-    else (if is_ident unfold_word l then Moves (InProof name prop script (AtUnfolded last))
+-- A step of the proof is read; behind the last one `by m` closes.
+abbrev pub after_method : Goal → Bool → List Step → Turn
+after_method goal true script = proved goal (script ++ (tree.Close ∷ tree.Done ∷ []))
+after_method goal false script = Moves (InProof goal script AtStep)
+
+abbrev pub basic_turn : Goal → List Step → Bool → Lexeme → Turn
+basic_turn goal script last l =
+    if is_ident assumption_word l then Moves (InProof goal (script ++ tree.Assumption ∷ []) (AfterBasic last))
+    else (if is_ident rule_word l then Moves (InProof goal script (AtFact last OfRule))
+    else (if is_ident erule_word l then Moves (InProof goal script (AtFact last OfErule))
+    else (if is_ident drule_word l then Moves (InProof goal script (AtFact last OfDrule))
+    else (if is_ident unfold_word l then Moves (InProof goal script (AtUnfolded last))
     else Refuses))))
 
 -- behind a basic method
-abbrev pub basic_end : List ℕ → Span → List Step → Bool → Lexeme → Turn
-basic_end name prop script last l =
-    if is_sign sign.Comma l then Moves (InProof name prop script (AtBasic last))
-    else (if is_sign sign.CloseParenthesis l then after_method name prop last script
+abbrev pub basic_end : Goal → List Step → Bool → Lexeme → Turn
+basic_end goal script last l =
+    if is_sign sign.Comma l then Moves (InProof goal script (AtBasic last))
+    else (if is_sign sign.CloseParenthesis l then after_method goal last script
     else Refuses)
 
-abbrev pub step_turn : List ℕ → Span → List Step → Lexeme → Turn
-step_turn name prop script l =
-    if is_word keyword.Apply l then Moves (InProof name prop script (AtMethod false))
-    else (if is_word keyword.Prefer l then Moves (InProof name prop script AtNumber)
-    else (if is_word keyword.Defer l then Moves (InProof name prop (script ++ tree.Defer ∷ []) AtStep)
-    else (if is_word keyword.Done l then Adds (tree.Lemma name prop [] (script ++ tree.Done ∷ [])) AtCommand
-    else (if is_word keyword.By l then Moves (InProof name prop script (AtMethod true))
+abbrev pub step_turn : Goal → List Step → Lexeme → Turn
+step_turn goal script l =
+    if is_word keyword.Apply l then Moves (InProof goal script (AtMethod false))
+    else (if is_word keyword.Prefer l then Moves (InProof goal script AtNumber)
+    else (if is_word keyword.Defer l then Moves (InProof goal (script ++ tree.Defer ∷ []) AtStep)
+    else (if is_word keyword.Done l then proved goal (script ++ tree.Done ∷ [])
+    else (if is_word keyword.By l then Moves (InProof goal script (AtMethod true))
     else Refuses))))
 
-abbrev pub after_unfolded : List ℕ → Span → List Step → Bool → List (List ℕ) → Lexeme → Option (List ℕ) → Turn
-after_unfolded name prop script last facts l (Some fact) = Moves (InProof name prop script (AfterUnfolded last (facts ++ fact ∷ [])))
-after_unfolded name prop script last facts l None = basic_end name prop (script ++ tree.Unfold facts ∷ []) last l
+abbrev pub after_unfolded : Goal → List Step → Bool → List (List ℕ) → Lexeme → Option (List ℕ) → Turn
+after_unfolded goal script last facts l (Some fact) = Moves (InProof goal script (AfterUnfolded last (facts ++ fact ∷ [])))
+after_unfolded goal script last facts l None = basic_end goal (script ++ tree.Unfold facts ∷ []) last l
 
-abbrev pub proof_turn : List ℕ → Span → List Step → ProofPlace → Lexeme → Turn
-proof_turn name prop script AtStep l = step_turn name prop script l
-proof_turn name prop script AtNumber l = moves_with (λ n. InProof name prop (script ++ tree.Prefer n ∷ []) AtStep) (number_in l)
-proof_turn name prop script (AtMethod last) l =
-    if is_ident assumption_word l then after_method name prop last (script ++ tree.Assumption ∷ [])
-    else moves_if (is_sign sign.OpenParenthesis l) (InProof name prop script (AtBasic last))
-proof_turn name prop script (AtBasic last) l = basic_turn name prop script last l
-proof_turn name prop script (AfterBasic last) l = basic_end name prop script last l
-proof_turn name prop script (AtFact last method) l = moves_with (λ fact. InProof name prop (script ++ fact_step method fact ∷ []) (AfterBasic last)) (name_in l)
-proof_turn name prop script (AtUnfolded last) l = moves_with (λ fact. InProof name prop script (AfterUnfolded last (fact ∷ []))) (name_in l)
-proof_turn name prop script (AfterUnfolded last facts) l = after_unfolded name prop script last facts l (name_in l)
+abbrev pub proof_turn : Goal → List Step → ProofPlace → Lexeme → Turn
+proof_turn goal script AtStep l = step_turn goal script l
+proof_turn goal script AtNumber l = moves_with (λ n. InProof goal (script ++ tree.Prefer n ∷ []) AtStep) (number_in l)
+proof_turn goal script (AtMethod last) l =
+    if is_ident assumption_word l then after_method goal last (script ++ tree.Assumption ∷ [])
+    else moves_if (is_sign sign.OpenParenthesis l) (InProof goal script (AtBasic last))
+proof_turn goal script (AtBasic last) l = basic_turn goal script last l
+proof_turn goal script (AfterBasic last) l = basic_end goal script last l
+proof_turn goal script (AtFact last method) l = moves_with (λ fact. InProof goal (script ++ fact_step method fact ∷ []) (AfterBasic last)) (name_in l)
+proof_turn goal script (AtUnfolded last) l = moves_with (λ fact. InProof goal script (AfterUnfolded last (fact ∷ []))) (name_in l)
+proof_turn goal script (AfterUnfolded last facts) l = after_unfolded goal script last facts l (name_in l)
+
+-- a have begins, but not in a file of version 1
+abbrev pub have_begun : OpenLemma → Bool → Turn
+have_begun lemma true = Refuses
+have_begun lemma false = Moves (AtHave lemma)
+
+-- behind the statement of a lemma, or behind one of its haves
+abbrev pub lemma_turn : ℕ → OpenLemma → Lexeme → Turn
+lemma_turn version lemma l = if is_word keyword.Have l then have_begun lemma (version == 1) else step_turn (OfLemma lemma) [] l
 
 abbrev pub after_above : List ℕ → List (List ℕ) → Lexeme → Option (List ℕ) → Turn
 after_above name above l (Some x) = Moves (AfterAbove name (above ++ x ∷ []))
@@ -206,56 +242,64 @@ abbrev pub after_item_type : Lexeme → Option (List ℕ) → Turn
 after_item_type l (Some x) = Moves (AfterItem x)
 after_item_type l None = leave (command_begun l)
 
-abbrev pub turn : Place → Lexeme → Turn
-turn AtCommand l = leave (command_begun l)
-turn AfterEnd l = Refuses
-turn AtClassName l = moves_with (λ x. AfterClassName x) (ident_in l)
-turn (AfterClassName x) l = if is_sign sign.Less l then Moves (AtAbove x) else leave_with (tree.Class x []) (command_begun l)
-turn (AtAbove x) l = moves_with (λ c. AfterAbove x (c ∷ [])) (name_in l)
-turn (AfterAbove x cs) l = after_above x cs l (name_in l)
-turn AtParams l = params_turn l (variable_in l)
-turn (AtParam xs) l = new_param xs (variable_in l)
-turn (AfterParam xs) l = if is_sign sign.Comma l then Moves (AtParam xs) else moves_if (is_sign sign.CloseParenthesis l) (AtTypeName (length xs))
-turn (AtTypeName n) l = adds_with (λ x. tree.TypeDecl x n) AtCommand (ident_in l)
-turn AtConstructor l = moves_with (λ k. AfterConstructor k) (name_in l)
-turn (AfterConstructor k) l = moves_if (is_sign sign.DoubleColon l) (AtDomains k)
-turn (AtDomains k) l = domains_turn k l
-turn (AtSort k doms) l = sort_turn k doms l
-turn (AfterSort k doms) l = after_sort k doms l
-turn (AtFirstClass k doms) l = first_class_turn k doms l
-turn (AtNextClass k doms cs) l = moves_with (λ c. AfterClass k doms (cs ++ c ∷ [])) (name_in l)
-turn (AfterClass k doms cs) l = after_class k doms cs l
-turn (AtArityClass k doms) l = adds_with (λ c. tree.Arity k doms c) AtCommand (name_in l)
-turn AtItem l = moves_with (λ x. AfterItem x) (ident_in l)
-turn (AfterItem x) l = moves_if (is_sign sign.DoubleColon l) (AtItemType x)
-turn (AtItemType x) l = adds_with (λ t. tree.Const x t) AfterItemType (type_in l)
-turn AfterItemType l = after_item_type l (ident_in l)
-turn AtWhere l = moves_if (is_word keyword.Where l) AtAxiom
-turn AtAxiom l = moves_with (λ x. AfterAxiom x) (ident_in l)
-turn (AfterAxiom x) l = moves_if (is_sign sign.Colon l) (AtAxiomText x)
-turn (AtAxiomText x) l = adds_with (λ p. tree.Axiom x p) AfterAxiomText (quote_in l)
-turn AfterAxiomText l = if is_word keyword.And l then Moves AtAxiom else leave (command_begun l)
-turn AtDefinition l = moves_with (λ x. AfterDefinition x) (ident_in l)
-turn (AfterDefinition x) l = moves_if (is_sign sign.DoubleColon l) (AtDefinitionType x)
-turn (AtDefinitionType x) l = moves_with (λ t. AfterDefinitionType x t) (type_in l)
-turn (AfterDefinitionType x t) l = moves_if (is_word keyword.Where l) (AtDefinitionText x t)
-turn (AtDefinitionText x t) l = adds_with (λ p. tree.Definition x t p) AtCommand (quote_in l)
-turn AtLemma l = moves_with (λ x. AfterLemma x) (ident_in l)
-turn (AfterLemma x) l = moves_if (is_sign sign.Colon l) (AtLemmaText x)
-turn (AtLemmaText x) l = moves_with (λ p. InProof x p [] AtStep) (quote_in l)
-turn (InProof x p script place) l = proof_turn x p script place l
+-- what a lexeme leads to in a file of this version
+abbrev pub turn : ℕ → Place → Lexeme → Turn
+turn version AtCommand l = leave (command_begun l)
+turn version AfterEnd l = Refuses
+turn version AtClassName l = moves_with (λ x. AfterClassName x) (ident_in l)
+turn version (AfterClassName x) l = if is_sign sign.Less l then Moves (AtAbove x) else leave_with (tree.Class x []) (command_begun l)
+turn version (AtAbove x) l = moves_with (λ c. AfterAbove x (c ∷ [])) (name_in l)
+turn version (AfterAbove x cs) l = after_above x cs l (name_in l)
+turn version AtParams l = params_turn l (variable_in l)
+turn version (AtParam xs) l = new_param xs (variable_in l)
+turn version (AfterParam xs) l = if is_sign sign.Comma l then Moves (AtParam xs) else moves_if (is_sign sign.CloseParenthesis l) (AtTypeName (length xs))
+turn version (AtTypeName n) l = adds_with (λ x. tree.TypeDecl x n) AtCommand (ident_in l)
+turn version AtConstructor l = moves_with (λ k. AfterConstructor k) (name_in l)
+turn version (AfterConstructor k) l = moves_if (is_sign sign.DoubleColon l) (AtDomains k)
+turn version (AtDomains k) l = domains_turn k l
+turn version (AtSort k doms) l = sort_turn k doms l
+turn version (AfterSort k doms) l = after_sort k doms l
+turn version (AtFirstClass k doms) l = first_class_turn k doms l
+turn version (AtNextClass k doms cs) l = moves_with (λ c. AfterClass k doms (cs ++ c ∷ [])) (name_in l)
+turn version (AfterClass k doms cs) l = after_class k doms cs l
+turn version (AtArityClass k doms) l = adds_with (λ c. tree.Arity k doms c) AtCommand (name_in l)
+turn version AtItem l = moves_with (λ x. AfterItem x) (ident_in l)
+turn version (AfterItem x) l = moves_if (is_sign sign.DoubleColon l) (AtItemType x)
+turn version (AtItemType x) l = adds_with (λ t. tree.Const x t) AfterItemType (type_in l)
+turn version AfterItemType l = after_item_type l (ident_in l)
+turn version AtWhere l = moves_if (is_word keyword.Where l) AtAxiom
+turn version AtAxiom l = moves_with (λ x. AfterAxiom x) (ident_in l)
+turn version (AfterAxiom x) l = moves_if (is_sign sign.Colon l) (AtAxiomText x)
+turn version (AtAxiomText x) l = adds_with (λ p. tree.Axiom x p) AfterAxiomText (quote_in l)
+turn version AfterAxiomText l = if is_word keyword.And l then Moves AtAxiom else leave (command_begun l)
+turn version AtDefinition l = moves_with (λ x. AfterDefinition x) (ident_in l)
+turn version (AfterDefinition x) l = moves_if (is_sign sign.DoubleColon l) (AtDefinitionType x)
+turn version (AtDefinitionType x) l = moves_with (λ t. AfterDefinitionType x t) (type_in l)
+turn version (AfterDefinitionType x t) l = moves_if (is_word keyword.Where l) (AtDefinitionText x t)
+turn version (AtDefinitionText x t) l = adds_with (λ p. tree.Definition x t p) AtCommand (quote_in l)
+turn version AtLemma l = moves_with (λ x. AfterLemma x) (ident_in l)
+turn version (AfterLemma x) l = moves_if (is_sign sign.Colon l) (AtLemmaText x)
+turn version (AtLemmaText x) l = moves_with (λ p. AtProof (record { name = x; prop = p; haves = [] })) (quote_in l)
+turn version (AtProof lemma) l = lemma_turn version lemma l
+turn version (AtHave lemma) l = moves_with (λ x. AfterHave lemma x) (ident_in l)
+turn version (AfterHave lemma x) l = moves_if (is_sign sign.Colon l) (AtHaveText lemma x)
+turn version (AtHaveText lemma x) l = moves_with (λ p. InProof (OfHave lemma x p) [] AtStep) (quote_in l)
+turn version (InProof goal script place) l = proof_turn goal script place l
 
--- the name and the imports of a theory
+-- the version, the name and the imports of a theory
 pub record Header : Type 0 where
+  pub version : ℕ
   pub name : List ℕ
   pub imports : List (List ℕ)
 
 -- A place in the text, with what was read before it.
 pub data State : Type 0 where
   AtStart : State
-  AtTheoryName : State
-  AfterTheoryName : (name : List ℕ) → State
-  AtImport : (name : List ℕ) → State
+  AtVersion : State
+  AfterVersion : (version : ℕ) → State
+  AtTheoryName : (version : ℕ) → State
+  AfterTheoryName : (version : ℕ) → (name : List ℕ) → State
+  AtImport : (version : ℕ) → (name : List ℕ) → State
   AfterImport : (header : Header) → State
   InBody : (header : Header) → (commands : List Command) → (place : Place) → State
   AtLast : (theory : TheoryText) → State
@@ -272,7 +316,7 @@ abbrev pub body_begun : Header → State
 body_begun h = InBody h [] AtCommand
 
 abbrev pub after_import : Header → Lexeme → Option (List ℕ) → Option State
-after_import h l (Some x) = Some (AfterImport (record { name = h.name; imports = with_text h.imports x }))
+after_import h l (Some x) = Some (AfterImport (record { version = h.version; name = h.name; imports = with_text h.imports x }))
 after_import h l None = goes_if (is_word keyword.Begin l) (body_begun h)
 
 abbrev pub body_state : Header → List Command → Turn → Option State
@@ -286,17 +330,19 @@ is_after_end AfterEnd = true
 is_after_end _ = false
 
 abbrev pub body_next : Header → List Command → Place → Lexeme → Option State
-body_next h cs place Ends = goes_if (is_after_end place) (AtLast (record { version = 1; name = h.name; imports = h.imports; commands = cs }))
-body_next h cs place l = body_state h cs (turn place l)
+body_next h cs place Ends = goes_if (is_after_end place) (AtLast (record { version = h.version; name = h.name; imports = h.imports; commands = cs }))
+body_next h cs place l = body_state h cs (turn h.version place l)
 
 -- where the text is, behind one more token
 abbrev pub next : State → Lexeme → Option State
-next AtStart l = goes_if (is_word keyword.Theory l) AtTheoryName
-next AtTheoryName l = goes_with (λ x. AfterTheoryName x) (ident_in l)
-next (AfterTheoryName x) l =
-    if is_word keyword.Imports l then Some (AtImport x)
-    else goes_if (is_word keyword.Begin l) (body_begun (record { name = x; imports = codes "Pure" ∷ [] }))
-next (AtImport x) l = goes_with (λ i. AfterImport (record { name = x; imports = i ∷ [] })) (ident_in l)
+next AtStart l = if is_word keyword.Version l then Some AtVersion else goes_if (is_word keyword.Theory l) (AtTheoryName 1)
+next AtVersion l = goes_with (λ version. AfterVersion version) (number_in l)
+next (AfterVersion version) l = goes_if (is_word keyword.Theory l) (AtTheoryName version)
+next (AtTheoryName version) l = goes_with (λ x. AfterTheoryName version x) (ident_in l)
+next (AfterTheoryName version x) l =
+    if is_word keyword.Imports l then Some (AtImport version x)
+    else goes_if (is_word keyword.Begin l) (body_begun (record { version = version; name = x; imports = codes "Pure" ∷ [] }))
+next (AtImport version x) l = goes_with (λ i. AfterImport (record { version = version; name = x; imports = i ∷ [] })) (ident_in l)
 next (AfterImport h) l = after_import h l (ident_in l)
 next (InBody h cs place) l = body_next h cs place l
 next (AtLast t) l = None
@@ -363,14 +409,20 @@ kind_at (AtDefinitionText x t) = kind.Quote
 kind_at AtLemma = kind.Ident
 kind_at (AfterLemma x) = kind.Symbol
 kind_at (AtLemmaText x) = kind.Quote
-kind_at (InProof x p script place) = kind_in_proof place
+kind_at (AtProof lemma) = kind.Word
+kind_at (AtHave lemma) = kind.Ident
+kind_at (AfterHave lemma x) = kind.Symbol
+kind_at (AtHaveText lemma x) = kind.Quote
+kind_at (InProof goal script place) = kind_in_proof place
 
 -- a kind that may stand next; behind the end of the source nothing may
 abbrev pub expected : State → TokenKind
 expected AtStart = kind.Word
-expected AtTheoryName = kind.Ident
-expected (AfterTheoryName x) = kind.Word
-expected (AtImport x) = kind.Ident
+expected AtVersion = kind.Number
+expected (AfterVersion version) = kind.Word
+expected (AtTheoryName version) = kind.Ident
+expected (AfterTheoryName version x) = kind.Word
+expected (AtImport version x) = kind.Ident
 expected (AfterImport h) = kind.Word
 expected (InBody h cs place) = kind_at place
 expected (AtLast t) = kind.End

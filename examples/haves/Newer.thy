@@ -1,0 +1,3 @@
+(* A version that isn't there yet. *)
+version 3
+theory Newer begin end
