@@ -1,5 +1,5 @@
 -- Where no command has haves look-ups, proofs and tables are what they were.
-use Rattle.std.proofs.Common.{◌≡◌, ◌↔◌, ℕ, List, [], ◌∷◌, Option, Some, None, inl, inr, refl}
+use Rattle.std.proofs.Common.{◌↔◌, ℕ, List, [], ◌∷◌, Option, Some, None, inl, inr, refl}
 use Rattle.pure_text.specs.Lists.{IsIn, Each, EachTwo}
 use Rattle.pure_text.proofs.ListLaws.{each_of, each_at, each_imply}
 use Rattle.pure_definitions.specs.Names.{Label}

@@ -11,7 +11,7 @@ use Rattle.pure_logic.proofs.AncestorLaws.{theories-in}
 use Rattle.pure_logic.proofs.MergeLaws.{merge_has_declarations}
 use Rattle.pure_lookup.specs.Meaning.{full_text}
 use Rattle.pure_lookup.specs.LookUps.{IsLocal}
-use Rattle.pure_lookup.proofs.MeaningLaws.{three_parts}
+use Rattle.pure_lookup.proofs.TextLemmas.{one_cut}
 use Rattle.pure_grammar.specs.Theories.TheoryText.{Have, Command, Class, TypeDecl, Arity, Const, Axiom, Definition, Lemma}
 use Rattle.pure_graph.specs.Order.{Loaded}
 use Rattle.pure_loading_laws.specs.Plain.{HasNoDot, HasPlainNames}
@@ -25,7 +25,7 @@ use Rattle.pure_table.proofs.Declare.ChainLaws.{commands_keep}
 use Rattle.pure_table.specs.SessionLaws.Loaded.{IsLoadedSession}
 use Rattle.pure_table.proofs.SessionLaws.FollowingLaws.{at-in}
 use Rattle.pure_table.specs.SessionMeaning.Verdicts.{Verdict, Begins, beginning_over}
-use Rattle.pure_table.specs.SessionMeaning.Statements.{IsRun, IsFork}
+use Rattle.pure_table.specs.SessionMeaning.Statements.{IsRun}
 use Rattle.pure_table.specs.SessionMeaning.Steps.{command_label}
 use Rattle.pure_table.specs.SessionMeaning.Kept.{IsKept}
 use Rattle.pure_table.specs.SessionMeaning.Laws.{IsSomeFork}
@@ -36,6 +36,12 @@ use Rattle.pure_table.proofs.SessionMeaning.OrderlyLaws.{no_promise-in_pure, cla
 use Rattle.pure_table.proofs.SessionMeaning.NoteLaws.{run-fork}
 use Rattle.pure_table.proofs.SessionMeaning.ForkLaws.{IsLeft, fork-left, left-ordered, left-bound}
 use Rattle.pure_table_laws.specs.WithoutHaves.{IsFirstTheory, HasTwoParts, HasPlainPromises, PromisesHaveTwoParts}
+
+-- A name of three parts isn't one of two.
+three_parts : (theory lemma base other part : List ℕ) → HasNoDot theory → HasNoDot other → HasNoDot part → full_text (full_text theory lemma) base ≡ full_text other part → ⊥
+three_parts theory lemma base other part clean apart plain e =
+    let cut = one_cut theory other (full_text lemma base) part clean apart (sym (append_assoc theory (46 ∷ lemma) (46 ∷ base)) ∙ e) in
+    plain (subst (λ (t : List ℕ). IsIn 46 t) cut.1 (in-append_right 46 lemma (46 ∷ base) (inl refl)))
 
 -- ---- a command without haves has one part
 
@@ -165,7 +171,7 @@ module _ (texts : List (List ℕ)) (theories : List Loaded) (session : IsLoadedS
       let two = fork-plain f some n l A is.promised in
       let same : full_text is.text written ≡ full_text two.theory two.base = one_text texts n (full_text is.text written) (full_text two.theory two.base) is.full two.full in
       three_parts of.parts.theory of.parts.base written two.theory two.base of.parts.plain_theory two.plain_theory two.plain_base
-      (sym (append_assoc of.parts.theory (46 ∷ of.parts.base) (46 ∷ written)) ∙ (ap (λ (t : List ℕ). full_text t written) (sym text) ∙ same))
+      (ap (λ (t : List ℕ). full_text t written) (sym text) ∙ same)
 
 pub promises_have_two_parts : PromisesHaveTwoParts
 promises_have_two_parts texts theories session all f some = fork-plain texts theories session all f some
