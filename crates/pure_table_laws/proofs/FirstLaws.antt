@@ -3,11 +3,13 @@ use Rattle.std.proofs.Common.{◌↔◌, ℕ, List, [], ◌∷◌, Option, Some,
 use Rattle.pure_text.specs.Lists.{IsIn, Each, EachTwo}
 use Rattle.pure_text.proofs.ListLaws.{each_of, each_at, each_imply}
 use Rattle.pure_definitions.specs.Names.{Label}
+use Rattle.pure_typ.specs.NameTexts.{AreSessionTexts}
 use Rattle.pure_lookup.specs.LookUps.{Fact, PromisedFact, IsFoundFact, IsFoundLocal, local, elsewhere}
 use Rattle.pure_graph.specs.Reading.{Answer}
 use Rattle.pure_graph.specs.Order.{Loaded}
 use Rattle.pure_graph.specs.Session.{Session, IsSessionOf}
 use Rattle.pure_graph.specs.Laws.{HasNoVersionWord}
+use Rattle.pure_graph.specs.First as loading
 use Rattle.pure_graph.proofs.VersionLemmas.{session_without_versions}
 use Rattle.pure_loading_laws.specs.Plain.{IsPlainText}
 use Rattle.pure_loading_laws.proofs.PlainLaws.{loaded_are_plain, no_haves_without_versions}
@@ -16,11 +18,13 @@ use Rattle.pure_table.specs.Method.Proof.{ProofOutcome}
 use Rattle.pure_table.proofs.Method.InLemmaLaws.{nothing_is_local}
 use Rattle.pure_table.specs.Promise.Entries.{LemmaEntry}
 use Rattle.pure_table.specs.SessionLaws.Loaded.{IsLoadedSession}
+use Rattle.pure_table.proofs.SessionLaws.OrderLaws.{loaded-in-order}
+use Rattle.pure_table.proofs.SessionLaws.WellLaws.{loaded-well}
 use Rattle.pure_table.specs.SessionMeaning.Statements.{forks_of}
 use Rattle.pure_table.specs.SessionMeaning.First.{HasNoHaves}
 use Rattle.pure_table.specs.SessionMeaning.Laws.{IsSomeFork}
 use Rattle.pure_table.proofs.SessionMeaning.FirstLaws.{statements_as_first}
-use Rattle.pure_table.specs.Table.{IsOwn, IsEntryOf}
+use Rattle.pure_table.specs.Table.{IsOwn, IsEntryOf, IsTable}
 use Rattle.pure_table.proofs.DerivedLaws.{some_fork}
 use Rattle.pure_table_laws.specs.First as first
 use Rattle.pure_table_laws.specs.WithoutHaves.{IsFirstTheory, LookUpIsFirst, ProofIsFirst, TableIsFirst, TableWithoutVersions}
@@ -80,6 +84,17 @@ table_is_first S session all cancelled t =
       },
     )
 
+-- The session of files is as those who check it ask, where its names are those of one.
+session-loaded : (answers : List Answer) (S : Session) → IsSessionOf answers S → AreSessionTexts S.names → IsLoadedSession S.names S.theories
+session-loaded answers S of names =
+    let order = loaded-in-order answers S.theories S.refused S.files of.loading in
+    record {
+      names = names;
+      well = loaded-well answers S.theories S.refused S.files of.loading S.names of.named;
+      distinct = order.names;
+      parents = λ place theory is. (order.parents place theory is).earlier;
+    }
+
 -- The theories of a session of files without the word `version` are as all were.
 first-theories : (answers : List Answer) (S : Session) → Each HasNoVersionWord answers → IsSessionOf answers S → Each IsFirstTheory S.theories
 first-theories answers S without of =
@@ -88,14 +103,13 @@ first-theories answers S without of =
     each_of IsFirstTheory S.theories (λ l m. record { without = each_at HasNoHaves S.theories none l m; plain = each_at (λ (k : Loaded). IsPlainText k.text) S.theories plain l m })
 
 pub table_without_versions : TableWithoutVersions
-table_without_versions answers without S session cancelled t =
-    let same = session_without_versions answers S without in (
-      λ h. record {
-        session = same.0 h.session;
-        table = (table_is_first S session (first-theories answers S without h.session) cancelled t).0 h.table;
-      },
-      λ h. record {
-        session = same.1 h.session;
-        table = (table_is_first S session (first-theories answers S without (same.1 h.session)) cancelled t).1 h.table;
-      },
-    )
+table_without_versions answers without S names cancelled t = (
+  λ h. record { session = same.0 h.session; table = (alike h.session).0 h.table },
+  λ h. record { session = same.1 h.session; table = (alike (same.1 h.session)).1 h.table },
+)
+  where
+    same : IsSessionOf answers S ↔ loading.IsSessionOf loading.IsTheoryText loading.IsFaultPlace answers S
+    same = session_without_versions answers S without
+
+    alike : IsSessionOf answers S → IsTable S cancelled t ↔ first.IsTable S cancelled t
+    alike of = table_is_first S (session-loaded answers S of names) (first-theories answers S without of) cancelled t

@@ -4,7 +4,7 @@ use Rattle.pure_text.specs.Lists.{IsIn, Each}
 use Rattle.pure_definitions.specs.Names.{Label}
 use Rattle.pure_definitions.specs.Terms.Term.{Term}
 use Rattle.pure_definitions.specs.Declarations.Decl.{PromiseDecl}
-use Rattle.pure_typ.specs.NameTexts.{HasText}
+use Rattle.pure_typ.specs.NameTexts.{AreSessionTexts, HasText}
 use Rattle.pure_logic.specs.Content.{Content}
 use Rattle.pure_lookup.specs.Meaning.{full_text}
 use Rattle.pure_lookup.specs.LookUps.{Fact, IsFoundFact, IsFoundLocal}
@@ -69,7 +69,7 @@ pub record WasTableOf (answers : List Answer) (S : Session) (cancelled : List La
   pub session : loading.IsSessionOf loading.IsTheoryText loading.IsFaultPlace answers S
   pub table : first.IsTable S cancelled t
 
--- Files without the word `version` have the session and come to the table that they had and to which they came.
+-- Files without the word `version` have the session that they had, where its names aren't too many, and come to the table to which they came.
 abbrev pub TableWithoutVersions : Type 0
-TableWithoutVersions = (answers : List Answer) → Each HasNoVersionWord answers → (S : Session) → IsLoadedSession S.names S.theories
+TableWithoutVersions = (answers : List Answer) → Each HasNoVersionWord answers → (S : Session) → AreSessionTexts S.names
     → (cancelled : List Label) (t : Table) → IsTableOf answers S cancelled t ↔ WasTableOf answers S cancelled t
