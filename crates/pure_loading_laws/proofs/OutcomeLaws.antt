@@ -4,12 +4,10 @@ use Rattle.std.specs.Prelude.{codes}
 use Rattle.std.proofs.lemmas.Bool.{cases_lt}
 use Rattle.pure_grammar.specs.declared.token.Token.{Token}
 use Rattle.pure_grammar.specs.declared.token.TokenKind.{TokenKind}
-use Rattle.pure_grammar.specs.declared.token.TokenKind.TheVariants as kind
 use Rattle.pure_grammar.specs.declared.lexeme.Keyword.TheVariants as keyword
-use Rattle.pure_grammar.specs.declared.lexeme.Sign.TheVariants as sign
 use Rattle.pure_grammar.specs.Tokens.Spelling.{Spells, HasFault}
-use Rattle.pure_grammar.specs.Theories.TheoryText.{Span, Command, TheoryText}
-use Rattle.pure_grammar.specs.Theories.Lexeme.{Lexeme, Reserved, Signed, Plain, Dotted, Variable, Numeral, Quoted, Other, Ends, same, is_word, ident_in, number_in, lexeme_of, lexeme, lexemes, word_lexeme, command_lexeme, proof_lexeme, symbol_lexeme}
+use Rattle.pure_grammar.specs.Theories.TheoryText.{Command, TheoryText}
+use Rattle.pure_grammar.specs.Theories.Lexeme.{Lexeme, Reserved, Signed, Plain, Dotted, Variable, Numeral, Quoted, Other, Ends, is_word, ident_in, number_in, lexeme, lexemes}
 use Rattle.pure_grammar.specs.Theories.Outer.{SpellsTheory, HasSyntaxFault, place_of}
 use Rattle.pure_grammar.specs.Theories.Reader.{State, Header, Place, Turn, Moves, Adds, Refuses, AtStart, AtVersion, AfterVersion, AtTheoryName, AfterTheoryName, AtImport, AfterImport, InBody, AtLast, Through, Stuck, goes_if, goes_with, goes_on, body_begun, after_import, body_state, body_next, is_after_end, turn, next, run, expected}
 use Rattle.pure_grammar.specs.Theories.Reader as reader
@@ -20,67 +18,7 @@ use Rattle.pure_graph.specs.Outcome.{Outcome, Refused, IsSourceOutcome, IsBytesO
 use Rattle.pure_graph.specs.Reading.{Answer, File, IsTried, AreReadFrom, counted, file_parts}
 use Rattle.pure_graph.specs.declared.outcome.Reason.TheVariants.{TooManyFiles, NoFile, TooLarge}
 use Rattle.pure_loading_laws.specs.Loading.{EachFileSaysSomething}
-
--- ---- no token is the end
-abbrev is_end : Lexeme → Bool
-is_end Ends = true
-is_end _ = false
-
--- of these lexemes the first whose test holds, else another
-abbrev first_of : List (Bool × Lexeme) → Lexeme → Lexeme
-first_of [] other = other
-first_of (p ∷ ps) other = if p.0 then p.1 else first_of ps other
-
-abbrev all_go : List (Bool × Lexeme) → Bool
-all_go [] = true
-all_go (p ∷ ps) = if is_end p.1 then false else all_go ps
-
-chosen : (b c : Bool) (x y : Lexeme) (more : Bool) → is_end x ≡ c → (if c then false else more) ≡ true → (more ≡ true → is_end y ≡ false) → is_end (if b then x else y) ≡ false
-chosen b true x y more h a f = absurd (true≢false (sym a))
-chosen true false x y more h a f = h
-chosen false false x y more h a f = f a
-
-first-goes : (ps : List (Bool × Lexeme)) (other : Lexeme) → all_go ps ≡ true → is_end other ≡ false → is_end (first_of ps other) ≡ false
-first-goes [] other a e = e
-first-goes (p ∷ ps) other a e = chosen p.0 (is_end p.1) p.1 (first_of ps other) (all_go ps) refl a (λ more. first-goes ps other more e)
-
-proof-goes : (bs : List ℕ) → is_end (proof_lexeme bs) ≡ false
-unfolding proof_lexeme
-proof-goes bs = first-goes ((same bs (codes "apply"), Reserved keyword.Apply) ∷ (same bs (codes "done"), Reserved keyword.Done) ∷ (same bs (codes "by"), Reserved keyword.By)
-    ∷ (same bs (codes "prefer"), Reserved keyword.Prefer) ∷ (same bs (codes "defer"), Reserved keyword.Defer) ∷ (same bs (codes "have"), Reserved keyword.Have) ∷ []) (Other kind.Word) refl refl
-
-command-goes : (bs : List ℕ) → is_end (command_lexeme bs) ≡ false
-unfolding command_lexeme
-command-goes bs = first-goes ((same bs (codes "class"), Reserved keyword.Class) ∷ (same bs (codes "typedecl"), Reserved keyword.Typedecl) ∷ (same bs (codes "arities"), Reserved keyword.Arities)
-    ∷ (same bs (codes "consts"), Reserved keyword.Consts) ∷ (same bs (codes "axiomatization"), Reserved keyword.Axiomatization) ∷ (same bs (codes "where"), Reserved keyword.Where)
-    ∷ (same bs (codes "and"), Reserved keyword.And) ∷ (same bs (codes "definition"), Reserved keyword.Definition) ∷ (same bs (codes "lemma"), Reserved keyword.Lemma)
-    ∷ (same bs (codes "theorem"), Reserved keyword.Theorem) ∷ []) (proof_lexeme bs) refl (proof-goes bs)
-
-word-goes : (bs : List ℕ) → is_end (word_lexeme bs) ≡ false
-unfolding word_lexeme
-word-goes bs = first-goes ((same bs (codes "theory"), Reserved keyword.Theory) ∷ (same bs (codes "imports"), Reserved keyword.Imports) ∷ (same bs (codes "begin"), Reserved keyword.Begin)
-    ∷ (same bs (codes "end"), Reserved keyword.End) ∷ (same bs (codes "version"), Reserved keyword.Version) ∷ []) (command_lexeme bs) refl (command-goes bs)
-
-symbol-goes : (bs : List ℕ) → is_end (symbol_lexeme bs) ≡ false
-unfolding symbol_lexeme
-symbol-goes bs = first-goes ((same bs (codes "<"), Signed sign.Less) ∷ (same bs (codes ","), Signed sign.Comma) ∷ (same bs (codes ":"), Signed sign.Colon)
-    ∷ (same bs (codes "::"), Signed sign.DoubleColon) ∷ (same bs (codes "("), Signed sign.OpenParenthesis) ∷ (same bs (codes ")"), Signed sign.CloseParenthesis)
-    ∷ (same bs (codes "{"), Signed sign.OpenBrace) ∷ (same bs (codes "}"), Signed sign.CloseBrace) ∷ []) (Other kind.Symbol) refl refl
-
-kind-goes : (k : TokenKind) (bs : List ℕ) (at : Span) → is_end (lexeme_of k bs at) ≡ false
-kind-goes kind.Word bs at = word-goes bs
-kind-goes kind.Ident bs at = refl
-kind-goes kind.Qualified bs at = refl
-kind-goes kind.TypeVar bs at = refl
-kind-goes kind.Schem bs at = refl
-kind-goes kind.BoundName bs at = refl
-kind-goes kind.Number bs at = refl
-kind-goes kind.Quote bs at = refl
-kind-goes kind.Symbol bs at = symbol-goes bs
-kind-goes kind.End bs at = refl
-
-token-goes : (source : List ℕ) (t : Token) → is_end (lexeme source t) ≡ false
-token-goes source t = kind-goes t.kind _ _
+use Rattle.pure_loading_laws.proofs.LexemeLaws.{is_end, token-goes}
 
 -- ---- the reader is through at the end alone
 none-some : {A : Type 0} (x : A) → None ≡ Some x → ⊥

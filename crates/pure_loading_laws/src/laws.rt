@@ -1,5 +1,7 @@
-//! That what loading is defined to be is there for any files: laws, each carried by the contract of a function that does nothing.
+//! That what loading is defined to be is there for any files, and which names and haves are in what is loaded: laws, each carried
+//! by the contract of a function that does nothing.
 ghost use Rattle.pure_loading_laws.specs.Loading.{EachFileSaysSomething, AnswersHaveALoading, FilesHaveASession};
+ghost use Rattle.pure_loading_laws.specs.Plain.{TextsArePlain, LoadedArePlain, NoHavesWithoutVersions};
 
 /// The file of a theory says something by itself: each of any bytes, and a missing one.
 pub fn each_file_says_something()
@@ -15,4 +17,15 @@ pub fn answers_have_a_loading()
 /// Any files have a session.
 pub fn files_have_a_session()
     ensures { FilesHaveASession }
+{}
+
+/// In a theory of the grammar, and so in one that is loaded, neither its own name nor one that its commands declare has a dot.
+pub fn names_have_no_dot()
+    ensures texts { TextsArePlain }
+    ensures loaded { LoadedArePlain }
+{}
+
+/// What is loaded of files without the word `version` has no haves.
+pub fn no_haves_without_versions()
+    ensures { NoHavesWithoutVersions }
 {}

@@ -1,3 +1,5 @@
 pub mod JoinedLaws
 pub mod RowLaws
 pub mod StandingLaws
+pub mod PromiseLaws
+pub mod FirstLaws

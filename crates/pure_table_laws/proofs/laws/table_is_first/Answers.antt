@@ -1,0 +1,8 @@
+use Rattle.pure_table_laws.proofs.FirstLaws.{table_is_first as first, table_without_versions}
+use Rattle.pure_table_laws.proofs.laws.table_is_first.Goals as goal
+
+pub returns-clause-sessions : goal.returns-clause-sessions
+returns-clause-sessions c = first
+
+pub returns-clause-files : goal.returns-clause-files
+returns-clause-files c = table_without_versions
