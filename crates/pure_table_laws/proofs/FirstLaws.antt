@@ -1,13 +1,14 @@
 -- Where no command has haves look-ups, proofs and tables are what they were.
-use Rattle.std.proofs.Common.{◌↔◌, ℕ, List, [], ◌∷◌, Option, Some, None, inl, inr, refl}
+use Rattle.std.proofs.Common.{◌↔◌, ℕ, List, [], ◌∷◌, map, Option, Some, None, inl, inr, refl}
 use Rattle.pure_text.specs.Lists.{IsIn, Each, EachTwo}
 use Rattle.pure_text.proofs.ListLaws.{each_of, each_at, each_imply}
 use Rattle.pure_definitions.specs.Names.{Label}
 use Rattle.pure_typ.specs.NameTexts.{AreSessionTexts}
 use Rattle.pure_lookup.specs.LookUps.{Fact, PromisedFact, IsFoundFact, IsFoundLocal, local, elsewhere}
+use Rattle.pure_io.specs.declared.library.File as library
 use Rattle.pure_graph.specs.Reading.{Answer}
 use Rattle.pure_graph.specs.Order.{Loaded}
-use Rattle.pure_graph.specs.Session.{Session, IsSessionOf}
+use Rattle.pure_graph.specs.Session.{Session, IsSessionOf, answer_in}
 use Rattle.pure_graph.specs.Laws.{HasNoVersionWord}
 use Rattle.pure_graph.specs.First as loading
 use Rattle.pure_graph.proofs.VersionLemmas.{session_without_versions}
@@ -24,10 +25,10 @@ use Rattle.pure_table.specs.SessionMeaning.Statements.{forks_of}
 use Rattle.pure_table.specs.SessionMeaning.First.{HasNoHaves}
 use Rattle.pure_table.specs.SessionMeaning.Laws.{IsSomeFork}
 use Rattle.pure_table.proofs.SessionMeaning.FirstLaws.{statements_as_first}
-use Rattle.pure_table.specs.Table.{IsOwn, IsEntryOf, IsTable}
+use Rattle.pure_table.specs.Table.{Table, IsOwn, IsEntryOf, IsTable}
 use Rattle.pure_table.proofs.DerivedLaws.{some_fork}
 use Rattle.pure_table_laws.specs.First as first
-use Rattle.pure_table_laws.specs.WithoutHaves.{IsFirstTheory, LookUpIsFirst, ProofIsFirst, TableIsFirst, TableWithoutVersions}
+use Rattle.pure_table_laws.specs.WithoutHaves.{IsFirstTheory, IsTableOf, WasTableOf, IsTextBy, LookUpIsFirst, ProofIsFirst, TableIsFirst, TableWithoutVersions, TextWithoutVersions}
 use Rattle.pure_table_laws.proofs.PromiseLaws.{none-local}
 
 pub look_up_is_first : LookUpIsFirst
@@ -113,3 +114,30 @@ table_without_versions answers without S names cancelled t = (
 
     alike : IsSessionOf answers S → IsTable S cancelled t ↔ first.IsTable S cancelled t
     alike of = table_is_first S (session-loaded answers S of names) (first-theories answers S without of) cancelled t
+
+-- A text that is so by tables of one kind is so by tables of another, where each of the one is of the other.
+text-by : (Has Had : List Answer → Session → List Label → Table → Type 0) (files : List library.File) (cancelled : List Label)
+    → ((theories : List (List ℕ)) (S : Session) → AreSessionTexts S.names → (t : Table) → Has (map (answer_in files) theories) S cancelled t → Had (map (answer_in files) theories) S cancelled t)
+    → (text : List ℕ) → IsTextBy Has files cancelled text → IsTextBy Had files cancelled text
+text-by Has Had files cancelled to text h = record {
+  theories = h.theories;
+  listed = h.listed;
+  session = h.session;
+  names = h.names;
+  table = h.table;
+  has = to h.theories h.session h.names h.table h.has;
+  shown = h.shown;
+}
+
+pub text_without_versions : TextWithoutVersions
+text_without_versions files without cancelled text = (
+  text-by IsTableOf WasTableOf files cancelled (λ theories S names t. (alike theories S names t).0) text,
+  text-by WasTableOf IsTableOf files cancelled (λ theories S names t. (alike theories S names t).1) text,
+)
+  where
+    none : (theories : List (List ℕ)) → Each HasNoVersionWord (map (answer_in files) theories)
+    none [] = tt
+    none (theory ∷ theories) = (without theory, none theories)
+
+    alike : (theories : List (List ℕ)) (S : Session) → AreSessionTexts S.names → (t : Table) → IsTableOf (map (answer_in files) theories) S cancelled t ↔ WasTableOf (map (answer_in files) theories) S cancelled t
+    alike theories S names t = table_without_versions (map (answer_in files) theories) (none theories) S names cancelled t

@@ -1,5 +1,5 @@
 -- Sessions without haves: nothing is local to a lemma, and the table is what it was.
-use Rattle.std.specs.Prelude.{◌↔◌, ℕ, List, Option}
+use Rattle.std.specs.Prelude.{◌≡◌, ◌↔◌, ℕ, List, map, Option}
 use Rattle.pure_text.specs.Lists.{IsIn, Each}
 use Rattle.pure_definitions.specs.Names.{Label}
 use Rattle.pure_definitions.specs.Terms.Term.{Term}
@@ -8,9 +8,11 @@ use Rattle.pure_typ.specs.NameTexts.{AreSessionTexts, HasText}
 use Rattle.pure_logic.specs.Content.{Content}
 use Rattle.pure_lookup.specs.Meaning.{full_text}
 use Rattle.pure_lookup.specs.LookUps.{Fact, IsFoundFact, IsFoundLocal}
+use Rattle.pure_io.specs.declared.library.File as library
+use Rattle.pure_graph.specs.Listing.{AreTheories}
 use Rattle.pure_graph.specs.Reading.{Answer}
 use Rattle.pure_graph.specs.Order.{Loaded}
-use Rattle.pure_graph.specs.Session.{Session, IsSessionOf}
+use Rattle.pure_graph.specs.Session.{Session, IsSessionOf, answer_in}
 use Rattle.pure_graph.specs.Laws.{HasNoVersionWord}
 use Rattle.pure_graph.specs.First as loading
 use Rattle.pure_loading_laws.specs.Plain.{HasNoDot, IsPlainText}
@@ -19,7 +21,7 @@ use Rattle.pure_table.specs.Method.Proof.{ProofOutcome, IsProof, IsProofIn}
 use Rattle.pure_table.specs.SessionLaws.Loaded.{IsLoadedSession}
 use Rattle.pure_table.specs.SessionMeaning.First.{HasNoHaves}
 use Rattle.pure_table.specs.SessionMeaning.Laws.{IsSomeFork}
-use Rattle.pure_table.specs.Table.{Table, IsTable}
+use Rattle.pure_table.specs.Table.{Table, IsTable, session_text}
 use Rattle.pure_table_laws.specs.First as first
 
 -- A loaded theory as all were while there were no haves, with names of identifiers.
@@ -73,3 +75,18 @@ pub record WasTableOf (answers : List Answer) (S : Session) (cancelled : List La
 abbrev pub TableWithoutVersions : Type 0
 TableWithoutVersions = (answers : List Answer) → Each HasNoVersionWord answers → (S : Session) → AreSessionTexts S.names
     → (cancelled : List Label) (t : Table) → IsTableOf answers S cancelled t ↔ WasTableOf answers S cancelled t
+
+-- The text is that of the files' table, where answers on their theories have such sessions and come to such tables.
+pub record IsTextBy (Has : List Answer → Session → List Label → Table → Type 0) (files : List library.File) (cancelled : List Label) (text : List ℕ) : Type 0 where
+  pub theories : List (List ℕ)
+  pub listed : AreTheories (map (λ (f : library.File). f.name) files) theories
+  pub session : Session
+  pub names : AreSessionTexts session.names
+  pub table : Table
+  pub has : Has (map (answer_in files) theories) session cancelled table
+  pub shown : text ≡ session_text session table
+
+-- Where no file of a theory has the word `version`, the text is what it was.
+abbrev pub TextWithoutVersions : Type 0
+TextWithoutVersions = (files : List library.File) → ((theory : List ℕ) → HasNoVersionWord (answer_in files theory))
+    → (cancelled : List Label) (text : List ℕ) → IsTextBy IsTableOf files cancelled text ↔ IsTextBy WasTableOf files cancelled text

@@ -1,6 +1,6 @@
 //! Laws of rows that stand, and of tables without haves: each is the contract of a function that does nothing.
 ghost use Rattle.pure_table_laws.specs.Laws.{RowsStand, RowsStayInPlace};
-ghost use Rattle.pure_table_laws.specs.WithoutHaves.{PromisesHaveTwoParts, LookUpIsFirst, ProofIsFirst, TableIsFirst, TableWithoutVersions};
+ghost use Rattle.pure_table_laws.specs.WithoutHaves.{PromisesHaveTwoParts, LookUpIsFirst, ProofIsFirst, TableIsFirst, TableWithoutVersions, TextWithoutVersions};
 
 /// A row of a session's table that is declared, refused, proved or failed stands whichever lemmas are cancelled, and at
 /// its place.
@@ -17,8 +17,9 @@ pub fn nothing_is_local()
     ensures proofs { ProofIsFirst }
 {}
 
-/// Such a session comes to the table to which it came, and so do files without the word `version`.
+/// Such a session comes to the table to which it came, and so do files without the word `version`, whose text is what it was.
 pub fn table_is_first()
     ensures sessions { TableIsFirst }
-    ensures files { TableWithoutVersions }
+    ensures answers { TableWithoutVersions }
+    ensures texts { TextWithoutVersions }
 {}
